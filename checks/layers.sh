@@ -8,7 +8,7 @@ set -u
 cd "$(dirname "$0")/.." || exit 1
 list=${1:-crates.txt}
 rooms=(spec fact text port replica law sim mp cmd test)
-cites_laws=' crsm_sim_schedule crsm_world crsm_mpreplay crsm_cmd_replay crsm_audit crsm_delay crsm_cmd_soak crsm_app '
+cites_laws=' crsm_sim_schedule crsm_world crsm_mpreplay crsm_audit crsm_delay crsm_cmd_soak crsm_app '
 defines=' crsm_mpspec '
 declare -A speaks_of=(
   [crsm_law_texts]=' crsm_text crsm_schedule hex '

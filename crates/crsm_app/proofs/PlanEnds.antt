@@ -6,7 +6,7 @@ use Rattle.crsm_delay.specs.declared.handling.Wanted.{Wanted}
 use Rattle.crsm_port_lines.specs.Exact as loop
 use Rattle.crsm_port_lines.specs.Run as lines
 use Rattle.crsm_port_lines.specs.declared.InputEnd.{InputEnd}
-use Rattle.crsm_cmd_replay.specs.declared.cause.Cause.{Cause}
+use Rattle.crsm_sim_schedule.specs.declared.Cause.{Cause}
 use Rattle.crsm_app.specs.Did.{DidPlan}
 use Rattle.crsm_app.specs.Exact.{IsDone, IsRefused, IsTooLong}
 use Rattle.crsm_app.specs.Statuses.{status_of_delay}

@@ -3,14 +3,15 @@ use Rattle.std.proofs.Common.{◌≡◌, ◌≢◌, ℕ, inl, inr, List, Option,
 use Rattle.crsm_port_lines.specs.Exact as loop
 use Rattle.crsm_port_lines.specs.declared.InputEnd.{InputEnd}
 use Rattle.crsm_cmd_replay.specs.Run as schedule
-use Rattle.crsm_cmd_replay.specs.declared.cause.Cause.{Cause}
+use Rattle.crsm_sim_schedule.specs.declared.Cause.{Cause}
+use Rattle.crsm_sim_schedule.specs.Run as replay
 use Rattle.crsm_app.specs.Did.{DidReplay}
 use Rattle.crsm_app.specs.Exact.{IsDone, IsRefused, IsTooLong}
 use Rattle.crsm_app.specs.Statuses.{status_of_replay}
 use Rattle.crsm_app.specs.declared.status.Status.{Status}
 
 did : (e : InputEnd Cause) (b a d w : Option (List ℕ)) → schedule.Ran e b a d w → DidReplay (status_of_replay e) b a d w
-unfolding schedule.Ran DidReplay
+unfolding replay.Ran DidReplay
 did InputEnd.Done b a d w ran = ran
 did (InputEnd.BadLine line why) b a d w ran = ran
 did InputEnd.ReadFault b a d w ran = ran

@@ -20,7 +20,7 @@ use Rattle.crsm_node.specs.declared.errors.NodeEnd.{NodeEnd}
 use Rattle.crsm_node.specs.declared.order.NodeOrder.{NodeOrder}
 use Rattle.crsm_port.specs.Meaning.{Meaning}
 use Rattle.crsm_cmd_replay.specs.Run as schedule
-use Rattle.crsm_cmd_replay.specs.declared.cause.Cause.{Cause}
+use Rattle.crsm_sim_schedule.specs.declared.Cause.{Cause}
 use Rattle.crsm_mpreplay.specs.Run as led
 use Rattle.crsm_cmd_replay_node.specs.Causes.{cause_in}
 use Rattle.crsm_cmd_replay_node.specs.Run as sheet

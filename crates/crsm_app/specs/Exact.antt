@@ -10,11 +10,9 @@ use Rattle.crsm_port_lines.specs.Exact as lines
 use Rattle.crsm_cmd_lock.specs.Answers.{WhereAnswered, WhereNotAnswered}
 use Rattle.crsm_port.specs.Meaning.{Meaning}
 use Rattle.crsm_cmd_replay.specs.Run as schedule
-use Rattle.crsm_cmd_replay.specs.State.{count_of}
-use Rattle.crsm_cmd_replay.specs.declared.cause.Cause.{Cause}
+use Rattle.crsm_sim_schedule.specs.State.{count_of}
+use Rattle.crsm_sim_schedule.specs.declared.Cause.{Cause}
 use Rattle.crsm_mpreplay.specs.Run as led
-use Rattle.crsm_mpreplay.specs.State.{count_of as count_of_led}
-use Rattle.crsm_mpreplay.specs.declared.cause.MpCause.{MpCause}
 use Rattle.crsm_cmd_replay_node.specs.Run as sheet
 use Rattle.crsm_cmd_replay_node.specs.declared.cause.SheetCause.{SheetCause}
 use Rattle.crsm_text_words.specs.declared.order.LockTask.{LockTask}
@@ -32,7 +30,7 @@ abbrev pub IsRefused : ℕ → Cause → Status → Type 0
 IsRefused line cause result = (result ≡ Status.BadInput line cause) ⊎ (result ≡ Status.NoMemory)
 
 -- the same of a schedule of a store with a leader
-abbrev pub IsRefusedMp : ℕ → MpCause → Status → Type 0
+abbrev pub IsRefusedMp : ℕ → Cause → Status → Type 0
 IsRefusedMp line cause result = (result ≡ Status.BadMpInput line cause) ⊎ (result ≡ Status.NoMemory)
 
 -- refused for this line of a sheet as no line, or at `open` for a body that is no log
@@ -69,7 +67,7 @@ pub record ReplaysExactly (left : Option (List ℕ)) (result : Status) : Type 0 
 -- the same of a schedule of a store with a leader
 pub record ReplaysMpExactly (left : Option (List ℕ)) (result : Status) : Type 0 where
   pub complete : led.WhereSchedule left (λ s. IsDone result)
-  pub refused : led.WhereBad left (λ read cause. IsRefusedMp (count_of_led read + 1) cause result)
+  pub refused : led.WhereBad left (λ read cause. IsRefusedMp (count_of read + 1) cause result)
   pub too_long : led.WhereTooLong left (IsTooLong result)
 
 -- the same of a sheet

@@ -6,10 +6,8 @@ use Rattle.crsm_delay.specs.declared.handling.PlanCause.{PlanCause}
 use Rattle.crsm_port_lines.specs.declared.InputEnd.{InputEnd}
 use Rattle.crsm_cmd_lock.specs.declared.command.LockEnd.{LockEnd}
 use Rattle.crsm_node.specs.declared.errors.NodeEnd.{NodeEnd}
-use Rattle.crsm_cmd_replay.specs.Causes as schedule
-use Rattle.crsm_cmd_replay.specs.declared.cause.Cause.{Cause}
-use Rattle.crsm_mpreplay.specs.Causes as led
-use Rattle.crsm_mpreplay.specs.declared.cause.MpCause.{MpCause}
+use Rattle.crsm_sim_schedule.specs.Causes as schedule
+use Rattle.crsm_sim_schedule.specs.declared.Cause.{Cause}
 use Rattle.crsm_cmd_replay_node.specs.Causes as sheet
 use Rattle.crsm_cmd_replay_node.specs.declared.cause.SheetCause.{SheetCause}
 use Rattle.crsm_app.specs.declared.status.Status.{Status}
@@ -41,9 +39,9 @@ status_of_replay InputEnd.NoMemory = Status.NoMemory
 status_of_replay InputEnd.InputTooLong = Status.InputTooLong
 
 -- the status of a schedule of a store with a leader that ended so
-abbrev pub status_of_replay_mp : InputEnd MpCause → Status
+abbrev pub status_of_replay_mp : InputEnd Cause → Status
 status_of_replay_mp InputEnd.Done = Status.Ok
-status_of_replay_mp (InputEnd.BadLine line why) = Status.BadMpInput line (led.cause_in why)
+status_of_replay_mp (InputEnd.BadLine line why) = Status.BadMpInput line (schedule.cause_in why)
 status_of_replay_mp InputEnd.ReadFault = Status.ReadFault
 status_of_replay_mp InputEnd.WriteFault = Status.WriteFault
 status_of_replay_mp InputEnd.NoMemory = Status.NoMemory

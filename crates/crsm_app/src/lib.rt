@@ -11,9 +11,8 @@ mod status;
 mod streams;
 
 pub use command::{plan, run};
-pub use crsm_cmd_replay::Cause;
-pub use crsm_mpreplay::MpCause;
 pub use crsm_node::{BootReport, Reporter, Silent};
+pub use crsm_sim_schedule::Cause;
 pub use crsm_text_words::DevicePlan;
 pub use entry::start;
 pub use status::Status;

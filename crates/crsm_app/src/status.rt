@@ -5,12 +5,11 @@ ghost use Rattle.crsm_app.specs.Statuses.{number_of, status_of_client, status_of
 
 use crsm_client::{ClientEnd, OperateError};
 use crsm_cmd_lock::LockEnd;
-use crsm_cmd_replay::{Cause, told_cause as cause_in_schedule};
 use crsm_cmd_replay_node::{SheetCause, told_cause as cause_in_sheet};
 use crsm_delay::PlanCause;
-use crsm_mpreplay::{MpCause, told_cause as cause_in_led};
 use crsm_node::NodeEnd;
 use crsm_port_lines::InputEnd;
+use crsm_sim_schedule::{Cause, told_cause};
 use std::fmt::{self, Display, Formatter, Write};
 
 /// The status of a run.
@@ -23,7 +22,7 @@ pub enum Status {
     /// This line of the input, counted from 1, is the first that is bad.
     BadInput { line: u64, cause: Cause },
     /// As `BadInput`, for a schedule of a store with a leader.
-    BadMpInput { line: u64, cause: MpCause },
+    BadMpInput { line: u64, cause: Cause },
     /// The input failed.
     ReadFault,
     /// The output failed.
@@ -78,7 +77,7 @@ pub(crate) fn replay_status(ending: InputEnd<Cause>) -> Status
         InputEnd::Done => Status::Ok,
         InputEnd::BadLine { line, why } => Status::BadInput {
             line,
-            cause: cause_in_schedule(why),
+            cause: told_cause(why),
         },
         InputEnd::ReadFault => Status::ReadFault,
         InputEnd::WriteFault => Status::WriteFault,
@@ -88,14 +87,14 @@ pub(crate) fn replay_status(ending: InputEnd<Cause>) -> Status
 }
 
 /// Returns the status of a replay of a store with a leader with this end.
-pub(crate) fn replay_mp_status(ending: InputEnd<MpCause>) -> Status
+pub(crate) fn replay_mp_status(ending: InputEnd<Cause>) -> Status
     ensures { result ≡ status_of_replay_mp ending }
 {
     match ending {
         InputEnd::Done => Status::Ok,
         InputEnd::BadLine { line, why } => Status::BadMpInput {
             line,
-            cause: cause_in_led(why),
+            cause: told_cause(why),
         },
         InputEnd::ReadFault => Status::ReadFault,
         InputEnd::WriteFault => Status::WriteFault,
@@ -223,8 +222,14 @@ impl Display for Status {
         match self {
             Status::Ok => f.write_str("done"),
             Status::Usage => f.write_str("the words are no command"),
-            Status::BadInput { line, cause } => write!(f, "line {line}: {cause}"),
-            Status::BadMpInput { line, cause } => write!(f, "line {line}: {cause}"),
+            Status::BadInput { line, cause } => {
+                let cause = cause.in_words("datagram");
+                write!(f, "line {line}: {cause}")
+            }
+            Status::BadMpInput { line, cause } => {
+                let cause = cause.in_words("message");
+                write!(f, "line {line}: {cause}")
+            }
             Status::ReadFault => f.write_str("the input failed"),
             Status::WriteFault => f.write_str("the output failed"),
             Status::PortFault => f.write_str("the port failed"),

@@ -1,141 +1,43 @@
--- Nothing of a schedule that can be run is refused, and nothing is refused for two causes: so the loop over lines
--- answers exactly.
-use Rattle.std.proofs.Common.{◌≡◌, ℕ, ◌+◌, ◌≤◌, inl, inr, List, [], ◌∷◌, ◌++◌, Option, Some, None, map, length, refl, ap, sym, ◌∙◌, subst}
-use Rattle.std.specs.List.{AllByRecursion}
-use Rattle.crsm_port_lines.specs.Exact as loop
-use Rattle.crsm_port_lines.specs.Exact.{Exact, Fits, MayEnd, reason_of}
-use Rattle.crsm_port_lines.specs.Run as lines_run
-use Rattle.crsm_port_lines.specs.State.{IsLine}
-use Rattle.crsm_port_lines.specs.declared.LineRefusal.{LineRefusal}
-use Rattle.crsm_port_lines.specs.declared.InputEnd.{InputEnd}
-use Rattle.crsm_schedule.specs.Grammar.{FitsEvent, event_text, first_text}
+-- Nothing of a schedule that can be run is refused, and no event for two causes.
+use Rattle.std.proofs.Common.{◌≡◌, ℕ, List, [], ◌∷◌, ◌++◌, Some, None, map, ap, sym, ◌∙◌, subst}
 use Rattle.crsm_schedule.specs.declared.Event.{Event}
-use Rattle.crsm_world.specs.Schedule.{Schedule}
-use Rattle.crsm_cmd_replay.specs.Causes.{cause_in}
-use Rattle.crsm_cmd_replay.specs.Refused.{BeginsBad, CutLine, Refused, bad_line, cut_line, long_line}
-use Rattle.crsm_cmd_replay.specs.Replayed.{IsRead, replayed}
-use Rattle.crsm_cmd_replay.specs.Run.{IsRefused, WhereBad, WhereSchedule, WhereTooLong}
-use Rattle.crsm_cmd_replay.specs.State.{IsGood, count_of, lines_read, shown_text}
-use Rattle.crsm_cmd_replay.specs.declared.cause.Cause.{Cause}
-use Rattle.crsm_cmd_replay.proofs.Lines.{TextLaws, count_lines, good_not_refused, long_unreadable, next_read, nil_not_cons, one_cause, read_is, same_read}
+use Rattle.crsm_sim_schedule.specs.Rules.{AreExact}
+use Rattle.crsm_sim_schedule.specs.Schedules as read
+use Rattle.crsm_sim_schedule.specs.declared.Cause.{Cause}
+use Rattle.crsm_spec.specs.Moments.{act}
+use Rattle.crsm_spec.specs.Possible.{possible}
+use Rattle.crsm_spec.specs.Run.{ArePossible, after_acts, last_world as world_at_end}
+use Rattle.crsm_spec.specs.World.{World, begin}
+use Rattle.crsm_world.specs.Doing.{act_of}
+use Rattle.crsm_world.specs.Schedule.{IsSchedule, acts_of, last_world}
+use Rattle.crsm_cmd_replay.specs.Causes.{cause_of}
+use Rattle.crsm_cmd_replay.specs.Rules.{IsImpossible, cluster_rules, of_cluster}
 
-module _ (laws : TextLaws) where
-  -- ---- lines
+-- the event behind possible ones is possible
+possible_next : (w : World) (es : List Event) (e : Event) (more : List Event) → ArePossible w (map act_of (es ++ e ∷ more)) → possible (after_acts w (map act_of es)) (act_of e) ≡ None
+unfolding after_acts
+possible_next w [] e more p = p.1
+possible_next w (x ∷ es) e more p = possible_next (act w (act_of x)).after es e more p.2
 
-  -- lines of a schedule that can be run fit
-  fits : (read : Option Schedule) → IsGood read → Fits replayed (lines_read read)
-  fits read good before more line shown cause is refused =
-      good_not_refused laws refused.read cause line
-      (next_read laws read refused.read line more good refused.is.good (is ∙ ap (λ (ls : List (List ℕ)). ls ++ line ∷ more) refused.is.lines_are)) refused.refused
+follows : (s next : read.Schedule) (e : Event) (more : List Event) → IsSchedule (of_cluster next) → next.replicas ≡ s.replicas → next.events ≡ s.events ++ e ∷ more
+    → possible (last_world (of_cluster s)) (act_of e) ≡ None
+unfolding last_world world_at_end acts_of
+follows s next e more good size events =
+    possible_next (begin s.replicas) s.events e more
+    (subst (λ n. ArePossible (begin n) (map act_of (s.events ++ e ∷ more))) size (subst (λ es. ArePossible (begin next.replicas) (map act_of es)) events good.possible))
 
-  -- behind its first line the input may end
-  may_end : (s : Schedule) → MayEnd replayed (lines_read (Some s))
-  may_end s shown cause refused = nil_not_cons (first_text s.replicas) (map event_text s.events) (sym refused.lines_are)
+pub same : {A : Type 0} (x y : A) → Some x ≡ Some y → x ≡ y
+same x y e = cc
 
-  pub exact : Exact replayed
-  exact = record {
-    unreadable = Cause.Unreadable;
-    handled = λ r lines shown after. subst (Fits replayed) (sym after.is.lines_are) (fits after.read after.is.good);
-    ended = λ lines shown last ends. subst (MayEnd replayed) (sym ends.is.lines_are) (may_end ends.schedule);
-    one_reason = λ lines shown other line c d p q.
-        let same = same_read laws p.read q.read p.is.good q.is.good (sym p.is.lines_are ∙ q.is.lines_are) in
-        one_cause laws q.read c d line (subst (λ (r : Option Schedule). Refused r c line) same p.refused) q.refused;
-    long_reason = λ lines shown line cause p long. long_unreadable laws p.read cause line p.refused long;
-    one_end = λ lines shown other c d p q. p.unreadable ∙ sym q.unreadable;
-  }
+pub none_not_some : {A : Type 0} (x : A) → None ≡ Some x → ⊥
+none_not_some x e = cc
 
-  events_are_lines : (es : List Event) → AllByRecursion FitsEvent es → AllByRecursion IsLine (map event_text es)
-  events_are_lines [] fit = tt
-  events_are_lines (e ∷ es) fit =
-      let p = laws.event_lines e fit.0 in (record { lacks = p.0; short = p.1 }, events_are_lines es fit.1)
+for_one_cause : (w : World) (e : Event) (c d : Cause) → IsImpossible w e c → IsImpossible w e d → c ≡ d
+for_one_cause w e c d p q = sym p.named ∙ ap cause_of (same p.bad q.bad (sym p.is ∙ q.is)) ∙ q.named
 
-  are_lines : (read : Option Schedule) → IsGood read → AllByRecursion IsLine (lines_read read)
-  are_lines None good = tt
-  are_lines (Some s) good =
-      let p = laws.first_lines s.replicas good.size in (record { lacks = p.0; short = p.1 }, events_are_lines s.events good.fit)
-
-  -- ---- bad lines
-
-  -- what begins badly does so for the loop over lines
-  record ForLoop (read : Option Schedule) (left : Option (List ℕ)) (cause : Cause) (text : List ℕ) : Type 0 where
-    why : LineRefusal Cause
-    told : reason_of replayed exact why ≡ cause
-    bad : lines_run.BeginsBad replayed (lines_read read) (shown_text read) left why text
-
-  is_read : (read : Option Schedule) → IsGood read → IsRead read (lines_read read) (shown_text read)
-  is_read read good = record { good = good; lines_are = refl; shown_is = refl }
-
-  cut_for_loop : (read : Option Schedule) (left : Option (List ℕ)) (cause : Cause) (text : List ℕ) → cause ≡ Cause.Unreadable → CutLine read left text → ForLoop read left cause text
-  unfolding exact
-  cut_for_loop None left cause [] is b = record {
-    why = LineRefusal.Refused Cause.Unreadable;
-    told = sym is;
-    bad = lines_run.bad_end Cause.Unreadable refl (record { none = refl; ended = b.ended; refused = record { lines_are = refl; shown_is = refl; unreadable = refl } });
-  }
-  cut_for_loop None left cause (t ∷ text) is b = record {
-    why = LineRefusal.Cut;
-    told = sym is;
-    bad = lines_run.cut_line refl (record { lacks = b.lacks; some = λ e. (cc); ended = b.ended });
-  }
-  cut_for_loop (Some s) left cause text is b = record {
-    why = LineRefusal.Cut;
-    told = sym is;
-    bad = lines_run.cut_line refl (record { lacks = b.lacks; some = b.cut; ended = b.ended });
-  }
-
-  for_loop : (read : Option Schedule) (left : Option (List ℕ)) (cause : Cause) (text : List ℕ) → IsGood read → BeginsBad read left cause text → ForLoop read left cause text
-  unfolding exact
-  for_loop read left cause text good (bad_line b) = record {
-    why = LineRefusal.Refused cause;
-    told = refl;
-    bad = lines_run.bad_line cause refl (record {
-      line = b.line;
-      rest = b.rest;
-      text_is = b.text_is;
-      lacks = b.lacks;
-      refused = record { read = read; is = is_read read good; refused = b.refused };
-    });
-  }
-  for_loop read left cause text good (long_line is b) = record {
-    why = LineRefusal.TooLong;
-    told = sym is;
-    bad = lines_run.long_line refl b;
-  }
-  for_loop read left cause text good (cut_line is b) = cut_for_loop read left cause text is b
-
-  cause_is : (bad : LineRefusal Cause) → reason_of replayed exact bad ≡ cause_in bad
-  unfolding exact
-  cause_is (LineRefusal.Refused cause) = refl
-  cause_is LineRefusal.TooLong = refl
-  cause_is LineRefusal.Cut = refl
-
-  -- ---- by what the loop over lines answers
-
-  module _ (result : InputEnd Cause) (left : Option (List ℕ)) where
-    pub completed : (P : Type 0) → loop.WhereWhole replayed exact left P → WhereSchedule left (λ s. P)
-    completed P loop_says = λ s good is within.
-        let text = read_is (Some s) in
-        loop_says (lines_read (Some s)) (fits (Some s) good) (may_end s) (are_lines (Some s) good) (is ∙ ap (λ (t : List ℕ). Some t) text)
-        (subst (λ (t : List ℕ). length t ≤ 1073741824) text within)
-
-    told_so : (line : ℕ) (why cause : Cause) → why ≡ cause → loop.IsRefused replayed exact line why result → IsRefused line cause result
-    told_so line why cause same (inl named) = inl (record { why = named.bad; told = sym (cause_is named.bad) ∙ named.told ∙ same; is = named.is })
-    told_so line why cause same (inr none) = inr none
-
-    pub refused : (Q : Type 0 → Type 0) → ((A B : Type 0) → (A → B) → Q A → Q B)
-        → loop.WhereBad replayed exact left (λ line why. Q (loop.IsRefused replayed exact line why result)) → WhereBad left (λ read cause. Q (IsRefused (count_of read + 1) cause result))
-    refused Q maps loop_says = λ read text more cause good is bad within.
-        let whole = read_is read in
-        let b = for_loop read (Some more) cause text good bad in
-        let line_is : length (lines_read read) + 1 ≡ count_of read + 1 = ap (λ (k : ℕ). k + 1) (sym (count_lines read)) in
-        subst (λ (line : ℕ). Q (IsRefused line cause result)) line_is
-        (maps (loop.IsRefused replayed exact (length (lines_read read) + 1) (reason_of replayed exact b.why) result) (IsRefused (length (lines_read read) + 1) cause result)
-        (told_so (length (lines_read read) + 1) (reason_of replayed exact b.why) cause b.told)
-        (loop_says (lines_read read) (shown_text read) text more b.why (fits read good) (are_lines read good) (is ∙ ap (λ (t : List ℕ). Some (t ++ (text ++ more))) whole) b.bad
-        (subst (λ (t : List ℕ). length (t ++ text) ≤ 1073741824) whole within)))
-
-    pub too_long : (P : Type 0) → loop.WhereTooLong replayed exact left P → WhereTooLong left P
-    too_long P loop_says = λ read rest more good lacks short long some is.
-        let whole = read_is read in
-        loop_says (lines_read read) rest more (fits read good) (are_lines read good) (record { lacks = lacks; short = short })
-        (ap (λ (t : List ℕ). length (t ++ rest)) (sym whole) ∙ long) some (is ∙ ap (λ (t : List ℕ). Some (t ++ (rest ++ more))) whole)
+pub are_exact : AreExact cluster_rules
+are_exact = record {
+  fits = λ s good. record { size = good.size; fit = good.fit };
+  none_refused = λ s next e more cause good size events refused. none_not_some refused.bad (sym (follows s next e more good size events) ∙ refused.is);
+  one_cause = λ s e c d p q. for_one_cause (last_world (of_cluster s)) e c d p q;
+}

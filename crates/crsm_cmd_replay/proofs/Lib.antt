@@ -1,5 +1,3 @@
-pub mod Lines
-pub mod LineLemmas
 pub mod Exact
-pub mod OneMore
-pub mod Replayed
+pub mod Happened
+pub mod OneText

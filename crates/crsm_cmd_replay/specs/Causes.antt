@@ -1,8 +1,6 @@
 -- The cause of a refusal.
 use Rattle.crsm_spec.specs.Acts.{Bad}
-use Rattle.crsm_cmd_replay.specs.declared.cause.Cause.{Cause}
-use Rattle.crsm_port_lines.specs.declared.LineRefusal.{LineRefusal}
-use Rattle.crsm_port_lines.specs.declared.LineRefusal.TheVariants.{Refused, TooLong, Cut}
+use Rattle.crsm_sim_schedule.specs.declared.Cause.{Cause}
 
 -- why an act is not possible
 unfoldable pub cause_of : Bad → Cause
@@ -16,9 +14,3 @@ cause_of Bad.IsDown = Cause.IsDown
 cause_of Bad.IsUp = Cause.IsUp
 cause_of Bad.TooFew = Cause.TooFew
 cause_of Bad.Forged = Cause.Forged
-
--- the cause to report for a bad line
-abbrev pub cause_in : LineRefusal Cause → Cause
-cause_in (Refused cause) = cause
-cause_in TooLong = Cause.Unreadable
-cause_in Cut = Cause.Unreadable

@@ -1,7 +1,4 @@
-pub mod State
 pub mod Causes
-pub mod Refused
-pub mod Handled
-pub mod Replayed
+pub mod Rules
 pub mod Run
 pub mod Laws

@@ -3,14 +3,13 @@
 ghost use Rattle.std.specs.Prelude.{◌≡◌, ◌≢◌, ◌<◌, ◌≤◌, ◌+◌, ℕ, List, Some, length};
 ghost use Rattle.crsm_port_faults.specs.Counts.{Rose};
 ghost use Rattle.crsm_port_lines.specs.Exact.{IsDone, IsTooLong, WhereFaultless};
-ghost use Rattle.crsm_cmd_replay.specs.State.{count_of};
+ghost use Rattle.crsm_sim_schedule.specs.State.{count_of};
 ghost use Rattle.crsm_cmd_replay.specs.Run.{Ran, IsRefused, WhereBad, WhereSchedule, WhereTooLong};
 
-use crate::cause::Cause;
-use crate::handling::Replaying;
+use crate::simulation::ClusterRun;
 use crsm_io::{Sink, Source};
-use crsm_law_texts::{events_have_one_text, first_lines_have_one_text, spelt_are_lines};
-use crsm_port_lines::{InputEnd, MAX_INPUT_BYTES, run_lines};
+use crsm_port_lines::{InputEnd, MAX_INPUT_BYTES};
+use crsm_sim_schedule::{Cause, replay_over};
 use std::alloc::Global;
 
 /// Reads a schedule to its end, and writes its transcript and final lines. Returns how that ended.
@@ -35,8 +34,5 @@ pub fn replay<I: Source, O: Sink>(alloc: Global, input: &mut I, output: &mut O) 
     ensures limit { (bytes : List ℕ) → I.left input.old ≡ Some bytes → MAX_INPUT_BYTES < length bytes → result ≢ InputEnd.Done }
     ensures within { (bytes : List ℕ) → I.left input.old ≡ Some bytes → length bytes ≤ MAX_INPUT_BYTES → result ≢ InputEnd.InputTooLong }
 {
-    events_have_one_text();
-    first_lines_have_one_text();
-    spelt_are_lines();
-    run_lines(alloc, Replaying::new(alloc), input, output)
+    replay_over::<ClusterRun, I, O>(alloc, input, output)
 }

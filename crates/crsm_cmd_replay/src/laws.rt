@@ -2,13 +2,11 @@
 
 ghost use Rattle.crsm_cmd_replay.specs.Laws.{SchedulesAreOne};
 
-use crsm_law_texts::{events_have_one_text, first_lines_have_one_text, spelt_are_lines};
+use crsm_sim_schedule::schedules_are_one as texts_are_of_one;
 
 /// States that a text is that of at most one schedule. It runs no code.
 pub fn schedules_are_one()
     ensures { SchedulesAreOne }
 {
-    events_have_one_text();
-    first_lines_have_one_text();
-    spelt_are_lines();
+    texts_are_of_one();
 }

@@ -1,6 +1,5 @@
 pub mod Schedules
-pub mod Lines
-pub mod LineLemmas
 pub mod Exact
-pub mod OneMore
+pub mod Happened
+pub mod OneText
 pub mod Replayed

@@ -4,6 +4,8 @@ use Rattle.std.specs.List.{AllByRecursion}
 use Rattle.crsm_schedule.specs.Grammar.{IsSize, FitsEvent}
 use Rattle.crsm_mpspec.specs.Safe.{Agreed, Answered, RealTime}
 use Rattle.crsm_mpworld.specs.Schedule.{Schedule, acts_of, schedule_text}
+use Rattle.crsm_sim_schedule.specs.Schedules as read
+use Rattle.crsm_mpreplay.specs.Rules.{of_leader}
 use Rattle.crsm_mpreplay.specs.Transcript.{ShowsAll}
 
 -- it can be written, whether or not it can be run
@@ -24,6 +26,6 @@ pub record IsLawful (s : Schedule) : Type 0 where
   pub real_time : RealTime s.replicas (acts_of s)
 
 -- the same of what has been read
-abbrev pub AreLawful : Option Schedule → Type 0
+abbrev pub AreLawful : Option read.Schedule → Type 0
 AreLawful None = Unit {0}
-AreLawful (Some s) = IsLawful s
+AreLawful (Some s) = IsLawful (of_leader s)

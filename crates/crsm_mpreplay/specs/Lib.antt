@@ -1,8 +1,5 @@
 pub mod Transcript
-pub mod State
 pub mod Causes
-pub mod Refused
-pub mod Handled
-pub mod Replayed
+pub mod Rules
 pub mod Laws
 pub mod Run

@@ -3,15 +3,14 @@
 ghost use Rattle.std.specs.Prelude.{◌≡◌, ◌≢◌, ◌<◌, ◌≤◌, ◌+◌, ℕ, List, Some, length};
 ghost use Rattle.crsm_port_faults.specs.Counts.{Rose};
 ghost use Rattle.crsm_port_lines.specs.Exact.{IsDone, IsTooLong, WhereFaultless};
-ghost use Rattle.crsm_mpreplay.specs.State.{count_of};
+ghost use Rattle.crsm_sim_schedule.specs.State.{count_of};
 ghost use Rattle.crsm_mpreplay.specs.Run.{Ran, IsRefused, WhereBad, WhereSchedule, WhereTooLong};
 
-use crate::cause::MpCause;
-use crate::handling::MpReplaying;
+use crate::simulation::LeaderRun;
 use crsm_io::{Sink, Source};
 use crsm_law_mp::leader_runs_are_safe;
-use crsm_law_texts::{events_have_one_text, first_lines_have_one_text, spelt_are_lines};
-use crsm_port_lines::{InputEnd, MAX_INPUT_BYTES, run_lines};
+use crsm_port_lines::{InputEnd, MAX_INPUT_BYTES};
+use crsm_sim_schedule::{Cause, replay_over};
 use std::alloc::Global;
 
 /// Reads a schedule to its end, and writes its transcript and final lines. Returns how that ended.
@@ -19,7 +18,7 @@ pub fn replay_mp<I: Source, O: Sink>(
     alloc: Global,
     input: &mut I,
     output: &mut O,
-) -> InputEnd<MpCause>
+) -> InputEnd<Cause>
     // The bytes read and written, by how it ended.
     ensures ran { Ran result (I.left input.old) (I.left input.new) (O.written output.old) (O.written output.new) }
 
@@ -40,9 +39,6 @@ pub fn replay_mp<I: Source, O: Sink>(
     ensures limit { (bytes : List ℕ) → I.left input.old ≡ Some bytes → MAX_INPUT_BYTES < length bytes → result ≢ InputEnd.Done }
     ensures within { (bytes : List ℕ) → I.left input.old ≡ Some bytes → length bytes ≤ MAX_INPUT_BYTES → result ≢ InputEnd.InputTooLong }
 {
-    events_have_one_text();
-    first_lines_have_one_text();
-    spelt_are_lines();
     leader_runs_are_safe();
-    run_lines(alloc, MpReplaying::new(alloc), input, output)
+    replay_over::<LeaderRun, I, O>(alloc, input, output)
 }

@@ -1,12 +1,10 @@
 //! The command `replay-mp`: it reads a schedule of a store with a leader, and writes its transcript and final lines.
 #![tactic(auto)]
 
-mod cause;
 mod command;
-mod handling;
 mod laws;
 mod print;
+mod simulation;
 
-pub use cause::{MpCause, told_cause};
 pub use command::replay_mp;
 pub use laws::schedules_are_one;

@@ -1,45 +1,11 @@
-use Rattle.crsm_port_lines.specs.Exact as loop
-use Rattle.crsm_cmd_replay.proofs.Exact.{completed, exact, refused, too_long}
-use Rattle.crsm_cmd_replay.proofs.Lines.{TextLaws}
-use Rattle.crsm_cmd_replay.proofs.Replayed.{begins, ran_so}
+use Rattle.crsm_cmd_replay.proofs.Exact.{are_exact}
 use Rattle.crsm_cmd_replay.proofs.command.replay.Goals as goal
 
-pub run_lines-requires : goal.run_lines-requires
-run_lines-requires g c = begins c.new.result c.new.ensures
-
-pub returns-clause-ran : goal.returns-clause-ran
-returns-clause-ran g c = ran_so c.run_lines.result _ _ _ _ c.run_lines.ensures.ran
-
 pub returns-clause-complete : goal.returns-clause-complete
-returns-clause-complete g c =
-    let laws : TextLaws = record {
-      events = c.events_have_one_text.ensures;
-      first = c.first_lines_have_one_text.ensures;
-      event_lines = c.spelt_are_lines.ensures.events;
-      first_lines = c.spelt_are_lines.ensures.first;
-    } in
-    let faultless = loop.WhereFaultless (g.I.Source.faults c.args.input.now) (g.I.Source.faults c.run_lines.new.input) (g.O.Sink.faults c.args.output.now) (g.O.Sink.faults c.run_lines.new.output) (loop.IsDone c.run_lines.result) in
-    completed laws c.run_lines.result (g.I.Source.left c.args.input.now) faultless (c.run_lines.ensures.complete (exact laws))
-
-pub returns-clause-too_long : goal.returns-clause-too_long
-returns-clause-too_long g c =
-    let laws : TextLaws = record {
-      events = c.events_have_one_text.ensures;
-      first = c.first_lines_have_one_text.ensures;
-      event_lines = c.spelt_are_lines.ensures.events;
-      first_lines = c.spelt_are_lines.ensures.first;
-    } in
-    let faultless = loop.WhereFaultless (g.I.Source.faults c.args.input.now) (g.I.Source.faults c.run_lines.new.input) (g.O.Sink.faults c.args.output.now) (g.O.Sink.faults c.run_lines.new.output) (loop.IsTooLong c.run_lines.result) in
-    too_long laws c.run_lines.result (g.I.Source.left c.args.input.now) faultless (c.run_lines.ensures.too_long (exact laws))
+returns-clause-complete g c = c.replay_over.ensures.complete are_exact
 
 pub returns-clause-refused : goal.returns-clause-refused
-returns-clause-refused g c =
-    let laws : TextLaws = record {
-      events = c.events_have_one_text.ensures;
-      first = c.first_lines_have_one_text.ensures;
-      event_lines = c.spelt_are_lines.ensures.events;
-      first_lines = c.spelt_are_lines.ensures.first;
-    } in
-    let faultless : Type 0 → Type 0 =
-    λ P. loop.WhereFaultless (g.I.Source.faults c.args.input.now) (g.I.Source.faults c.run_lines.new.input) (g.O.Sink.faults c.args.output.now) (g.O.Sink.faults c.run_lines.new.output) P in
-    refused laws c.run_lines.result (g.I.Source.left c.args.input.now) faultless (λ A B f says no_read no_write. f (says no_read no_write)) (c.run_lines.ensures.refused (exact laws))
+returns-clause-refused g c = c.replay_over.ensures.refused are_exact
+
+pub returns-clause-too_long : goal.returns-clause-too_long
+returns-clause-too_long g c = c.replay_over.ensures.too_long are_exact

@@ -1,10 +1,5 @@
-use Rattle.crsm_cmd_replay.proofs.Lines.{schedules_told}
+use Rattle.crsm_cmd_replay.proofs.OneText.{as_one}
 use Rattle.crsm_cmd_replay.proofs.laws.schedules_are_one.Goals as goal
 
 pub returns : goal.returns
-returns c r s fits gits same = schedules_told (record {
-  events = c.events_have_one_text.ensures;
-  first = c.first_lines_have_one_text.ensures;
-  event_lines = c.spelt_are_lines.ensures.events;
-  first_lines = c.spelt_are_lines.ensures.first;
-}) r s fits gits same
+returns c r s fits gits same = as_one c.schedules_are_one.ensures r s fits gits same
