@@ -1,0 +1,4 @@
+mod Last
+mod Times
+mod Laws
+mod Example
