@@ -19,7 +19,7 @@ use Rattle.crsm_law_wishes.proofs.Times.{AreKnown, known}
 
 -- ---- the turn at a place
 
-split_at : {A : Type 0} (xs : List A) (i : ℕ) (x : A) → slice_get xs i ≡ Some x → xs ≡ take i xs ++ x ∷ drop (suc i) xs
+pub split_at : {A : Type 0} (xs : List A) (i : ℕ) (x : A) → slice_get xs i ≡ Some x → xs ≡ take i xs ++ x ∷ drop (suc i) xs
 split_at [] i x at = absurd (none-some x at)
 split_at (y ∷ xs) zero x at = ap (λ z. z ∷ xs) (same_Some y x at)
 split_at (y ∷ xs) (suc i) x at = ap (λ rest. y ∷ rest) (split_at xs i x at)
@@ -31,13 +31,13 @@ WishedInTurn =
     AreWished w r (ts ++ us) ↔ (AreWished w r ts × AreWished (watch_after w ts) (replica_after r ts) us)
 
 module _ (append : WishedInTurn) (r : Replica) (turns : List (Turn × ℕ)) (are : AreTurnsOf r turns) (place reading now : ℕ) (y : Turn) (there : slice_get turns place ≡ Some (y, reading)) (is_now : IsNow turns place now) where
-  abbrev before : List (Turn × ℕ)
+  abbrev pub before : List (Turn × ℕ)
   before = take place turns
 
-  abbrev replica : Replica
+  abbrev pub replica : Replica
   replica = replica_after r before
 
-  abbrev here : AreKnown before
+  abbrev pub here : AreKnown before
   here = known before now is_now
 
   fulfilled : Fulfils (wish_of (watch_after unwatched before) replica) y

@@ -14,12 +14,12 @@ use Rattle.crsm_law_wishes.proofs.Last.{LastOrOld, MovesTo, go_on, is_last, one_
 -- ---- one turn
 
 -- the times after a turn
-abbrev next : Times → Turn → ℕ → Times
+abbrev pub next : Times → Turn → ℕ → Times
 next t (Turn.In address bytes) reading = further (heard_in (Turn.In address bytes)) reading t
 next t Turn.Tick reading = record (further None reading t) { ticked = reading }
 next t (Turn.Suspect ms) reading = further None reading (record t { suspected = t.newest })
 
-next_is : (t : Times) (y : Turn) (reading : ℕ) → watched (Some t) (y, reading) ≡ Some (next t y reading)
+pub next_is : (t : Times) (y : Turn) (reading : ℕ) → watched (Some t) (y, reading) ≡ Some (next t y reading)
 next_is t (Turn.In address bytes) reading = refl
 next_is t Turn.Tick reading = refl
 next_is t (Turn.Suspect ms) reading = refl

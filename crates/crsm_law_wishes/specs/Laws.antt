@@ -49,3 +49,10 @@ TicksAreTimely =
     (r : Replica) (turns : List (Turn × ℕ)) → AreTurnsOf r turns → (place reading ticked now : ℕ) (t : Turn) →
     slice_get turns place ≡ Some (t, reading) → IsLastTick turns place ticked → IsNow turns place now →
     ticked + pace ≤ now → t ≡ Turn.Tick
+
+-- Two suspicions are at least 5 seconds apart, by the readings before them.
+abbrev pub SuspicionsAreSpaced : Type 0
+SuspicionsAreSpaced =
+    (r : Replica) (turns : List (Turn × ℕ)) → AreTurnsOf r turns → (i j : ℕ) (ms others : List ℕ) → i < j →
+    SuspectsAllBut turns i ms → SuspectsAllBut turns j others → (before now : ℕ) → IsNow turns i before →
+    IsNow turns j now → before + patience ≤ now

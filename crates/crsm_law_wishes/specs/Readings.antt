@@ -3,8 +3,8 @@ use Rattle.std.specs.Prelude.{◌≡◌, ◌⊎◌, ℕ, ◌<◌, List, Some, sl
 use Rattle.crsm_spec.specs.Node.{Turn}
 use Rattle.crsm_shell.specs.Taking.{heard_in}
 
--- The last of these turns that is of a kind was taken at this reading. The first turn of all counts as one of each kind,
--- since a node knows nothing of the time before.
+-- The last of these turns that is of a kind was taken at this reading. The first turn of all counts as one of each
+-- kind, since a node knows nothing of the time before.
 pub record IsLast (kind : Turn → Type 0) (turns : List (Turn × ℕ)) (reading : ℕ) : Type 0 where
   pub place : ℕ
   pub turn : Turn

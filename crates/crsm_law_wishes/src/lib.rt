@@ -1,9 +1,9 @@
-//! Laws of the turns that a node takes, each as the contract of a function that runs no code: whom it suspects, and when
-//! it ticks, by the readings of its own clock.
+//! Laws of the turns that a node takes, each as the contract of a function that runs no code: whom it suspects, and
+//! when it ticks, by the readings of its own clock.
 #![tactic(auto)]
 
 ghost use Rattle.crsm_law_wishes.specs.Example.{ReplicasAreSuspected};
-ghost use Rattle.crsm_law_wishes.specs.Laws.{HeardAreNotSuspected, OthersAreSuspected, TicksAreTimely};
+ghost use Rattle.crsm_law_wishes.specs.Laws.{HeardAreNotSuspected, OthersAreSuspected, SuspicionsAreSpaced, TicksAreTimely};
 
 use crsm_replica_detector::turns_append;
 
@@ -18,6 +18,13 @@ pub fn heard_are_not_suspected()
 /// A node that suspects others keeps none, besides itself, that it has not heard for 5 seconds or more.
 pub fn others_are_suspected()
     ensures { OthersAreSuspected }
+{
+    turns_append();
+}
+
+/// A node that suspected others does so again after 5 seconds at the earliest.
+pub fn suspicions_are_spaced()
+    ensures { SuspicionsAreSpaced }
 {
     turns_append();
 }
