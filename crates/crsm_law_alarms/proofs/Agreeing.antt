@@ -7,9 +7,12 @@ use Rattle.crsm_law_lives.proofs.Laws.{got_among}
 use Rattle.crsm_law_sheets.specs.Sheets.{Sheet, list_of, one_list}
 use Rattle.crsm_law_sheets.specs.Verdicts.{Agree, DropsExecuted, IsOddList}
 use Rattle.crsm_law_honest.specs.Laws.{HonestSheetsAgree}
+use Rattle.crsm_text_sheet.specs.Laws.{SheetsTellTurns}
+use Rattle.crsm_audit.specs.Sheets.{sheets_in}
 use Rattle.crsm_audit.specs.Verdict.{IsVerdict}
 use Rattle.crsm_audit.specs.declared.verdict.Verdict.{Verdict}
 use Rattle.crsm_law_alarms.specs.Laws.{AuditsRaiseNoFalseAlarm, SaysAgree}
+use Rattle.crsm_law_alarms.proofs.Written.{BodiesHaveOne, are_written}
 
 module _ (n : ℕ) (sheets : List Sheet) (agree : Agree n sheets) where
   -- no list differs from the one list
@@ -27,6 +30,7 @@ module _ (n : ℕ) (sheets : List Sheet) (agree : Agree n sheets) where
       all_at (λ t. (l : ℕ) → DropsExecuted n sheets t l → ⊥) sheets is.2.0 agree.dropped (got_among sheets sheet is.2.0 is.2.1) line is.2.2
   says_agree (Verdict.Agree places) is = tt
 
-pub no_false_alarm : HonestSheetsAgree → AuditsRaiseNoFalseAlarm
-no_false_alarm honest n ls h few r short lines text x written complete =
+pub no_false_alarm : BodiesHaveOne → SheetsTellTurns → HonestSheetsAgree → AuditsRaiseNoFalseAlarm
+no_false_alarm one tell honest n ls h few r short lines text x of_them complete =
+    let written = are_written one tell n ls (sheets_in lines) x.sheets x.are of_them in
     says_agree n x.sheets (honest n ls h few r short x.sheets written complete) x.verdict x.is

@@ -4,12 +4,16 @@
 
 ghost use Rattle.crsm_law_alarms.specs.Laws.{AuditsRaiseNoFalseAlarm};
 
+use crsm_codec::one_spelling_each;
 use crsm_law_honest::honest_sheets_agree;
+use crsm_text_sheet::sheets_are_one;
 
 /// An audit of sheets that nodes wrote says that they agree, if the last sheet of each node has every own entry that
 /// its log file has.
 pub fn audits_raise_no_false_alarm()
     ensures { AuditsRaiseNoFalseAlarm }
 {
+    one_spelling_each();
+    sheets_are_one();
     honest_sheets_agree();
 }
