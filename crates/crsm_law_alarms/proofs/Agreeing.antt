@@ -6,12 +6,13 @@ use Rattle.crsm_fact_log.proofs.Lists.{all_at, get_left}
 use Rattle.crsm_law_lives.proofs.Laws.{got_among}
 use Rattle.crsm_law_sheets.specs.Sheets.{Sheet, list_of, one_list}
 use Rattle.crsm_law_sheets.specs.Verdicts.{Agree, DropsExecuted, IsOddList}
-use Rattle.crsm_law_honest.specs.Laws.{HonestSheetsAgree}
+use Rattle.crsm_law_honest.specs.Laws.{HonestSheetsAgree, WholeSheetsAreComplete}
 use Rattle.crsm_text_sheet.specs.Laws.{SheetsTellTurns}
 use Rattle.crsm_audit.specs.Sheets.{sheets_in}
 use Rattle.crsm_audit.specs.Verdict.{IsVerdict}
 use Rattle.crsm_audit.specs.declared.verdict.Verdict.{Verdict}
-use Rattle.crsm_law_alarms.specs.Laws.{AuditsRaiseNoFalseAlarm, SaysAgree}
+use Rattle.crsm_law_alarms.specs.Laws.{AuditsOfWholeSheetsAgree, AuditsRaiseNoFalseAlarm, SaysAgree}
+use Rattle.crsm_law_alarms.proofs.Whole.{end_whole}
 use Rattle.crsm_law_alarms.proofs.Written.{BodiesHaveOne, are_written}
 
 module _ (n : ℕ) (sheets : List Sheet) (agree : Agree n sheets) where
@@ -34,3 +35,8 @@ pub no_false_alarm : BodiesHaveOne → SheetsTellTurns → HonestSheetsAgree →
 no_false_alarm one tell honest n ls h few r short lines text x of_them complete =
     let written = are_written one tell n ls (sheets_in lines) x.sheets x.are of_them in
     says_agree n x.sheets (honest n ls h few r short x.sheets written complete) x.verdict x.is
+
+pub whole_sheets_agree : BodiesHaveOne → SheetsTellTurns → WholeSheetsAreComplete → AuditsRaiseNoFalseAlarm → AuditsOfWholeSheetsAgree
+whole_sheets_agree one tell whole no_alarm n ls h few r short lines text x of_them ends =
+    no_alarm n ls h few r short lines text x of_them
+    (whole n ls h r x.sheets (end_whole one tell n ls (sheets_in lines) x.sheets x.are ends))

@@ -11,7 +11,7 @@ use Rattle.crsm_law_nodes.specs.Sheets.{IsSheetOf}
 use Rattle.crsm_law_sheets.specs.Sheets.{Sheet}
 use Rattle.crsm_law_honest.specs.Honest.{AreWrittenBy, IsWrittenBy}
 use Rattle.crsm_audit.specs.Sheets.{AreSheetsOf, IsSheetOf as IsRead, NodeSheet}
-use Rattle.crsm_law_alarms.specs.Laws.{AreOfProcesses}
+use Rattle.crsm_law_alarms.specs.Lines.{AreOfProcesses}
 
 -- a body is that of one list of records
 abbrev pub BodiesHaveOne : Type 0
@@ -33,7 +33,7 @@ read_from n (node ∷ nodes) (t ∷ sheets) are s (inl e) = (node, inl refl, sub
 read_from n (node ∷ nodes) (t ∷ sheets) are s (inr m) = let r = read_from n nodes sheets are.1 s m in (r.0, inr r.1, r.2)
 
 module _ (one : BodiesHaveOne) (tell : SheetsTellTurns) (n : ℕ) where
-  written_by : (l : Life) (node : NodeSheet) (s : Sheet) → l.me ≡ node.me → IsSheetOf n l node.lines → IsRead n node s → IsWrittenBy l s
+  pub written_by : (l : Life) (node : NodeSheet) (s : Sheet) → l.me ≡ node.me → IsSheetOf n l node.lines → IsRead n node s → IsWrittenBy l s
   written_by l node s me p q =
       let parts = tell q.sheet.bodies p.bodies q.sheet.turns p.turns (sym q.sheet.is ∙ p.is) in
       let kept : AreKept l.me n [] p.bodies q.sheet.log =
