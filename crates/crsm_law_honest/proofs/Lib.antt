@@ -1,0 +1,5 @@
+mod Telling
+mod Steps
+mod Agreeing
+mod Whole
+mod Cutting

@@ -1,0 +1,5 @@
+mod Last
+mod Times
+mod Laws
+mod Spacing
+mod Example
