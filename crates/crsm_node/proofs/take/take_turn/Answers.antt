@@ -91,7 +91,7 @@ returns-clause-took g c kept r steps s me w watches same =
       took = took;
       stands = made.stands;
       watches = subst (λ (k : ℕ). DetectorStands c.note.new.detector k (watched w (turn_of buffer t.taken, t.reading))) (sym made.me) heard;
-      prints = c.in_ok-add.ensures ∙ ap (λ (b : List ℕ). c.args.pending.now.lines ++ turn_text (turn_of b t.taken, t.reading)) c.buffer.ensures.value;
+      prints = c.in_ok-add.ensures ∙ ap (λ (b : List ℕ). c.args.pending.now.lines ++ turn_text (turn_of b t.taken, t.reading)) c.buffer-buffer.ensures.value;
       kind = c.is_datagram-took_datagram.ensures buffer t.reading;
     }
 
