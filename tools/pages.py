@@ -10,14 +10,14 @@ AFTER = {'client': (4, ['get', 'put', 'del', 'cas']), 'lock': (5, ['take', 'give
 
 
 def help_of(program, *words):
-    """The parts of a help text: what it is about, its usage, its commands with a line each, and the rest."""
+    """The parts of a help text: what it is about, its usage, the names of its commands, and the rest."""
     text = subprocess.run([program, *words, '--help'], stdout=subprocess.PIPE, text=True, check=True).stdout
     blocks = text.strip('\n').split('\n\n')
     about, usage = blocks[0], next(b for b in blocks if b.startswith('Usage: '))[len('Usage: '):]
     commands, rest = [], []
     for block in blocks[blocks.index('Usage: ' + usage) + 1:]:
         if block.startswith('Commands:'):
-            commands = [line.split(None, 1) for line in block.splitlines()[1:]]
+            commands = [line.split()[0] for line in block.splitlines()[1:]]
         elif not block.startswith(('Options:', 'Arguments:')):
             rest.append(block)
     return about, usage, commands, '\n\n'.join(rest)
@@ -34,15 +34,14 @@ def manual(program):
     version = subprocess.run([program, '--version'], stdout=subprocess.PIPE, text=True, check=True).stdout.split()[1]
     out = [f'.TH CRSM 1 "" "crsm {version}"', '.SH NAME', f'crsm \\- {about[0].lower() + about[1:]}', '.SH SYNOPSIS', roff(usage)]
     out += ['.SH DESCRIPTION', '.nf', roff(rest), '.fi', '.SH COMMANDS']
-    for name, line in commands:
+    for name in commands:
         about, usage, _, details = help_of(program, name)
         out += [f'.SS {roff(usage)}', roff(about) + '.', '.PP', '.nf', roff(details), '.fi']
     return '\n'.join(out + ['.SH FILES', '.TP', 'crsm\\-ME.log', 'The log of node ME, in the folder that it is started in.']) + '\n'
 
 
 def completion(program):
-    _, _, commands, _ = help_of(program)
-    names = [name for name, _ in commands]
+    _, _, names, _ = help_of(program)
     cases = '\n'.join(f'    {name}) [ $((COMP_CWORD - at)) = {place + 1} ] && words="{" ".join(after)}" ;;' for name, (place, after) in AFTER.items())
     in_cluster = ' '.join(name for name in names if 'cluster' in help_of(program, name)[1])
     return f'''# Completion for bash of the command crsm.
