@@ -1,0 +1,4 @@
+mod Bundles
+mod Keepings
+mod Openings
+mod Unpackings

@@ -1,0 +1,6 @@
+pub mod Carrying
+pub mod Format
+pub mod Held
+pub mod Kept
+pub mod Sent
+pub mod Waiting
