@@ -1,6 +1,6 @@
 //! The relation between a datagram's sender and its bytes.
 
-ghost use Rattle.crsm_port_node.specs.Laws.{SendersAreNamed};
+ghost use Rattle.crsm_port_peers.specs.Laws.{SendersAreNamed};
 
 use crsm_wire::what_is_read_is_spelt;
 

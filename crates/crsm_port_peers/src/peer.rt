@@ -2,7 +2,8 @@
 
 ghost use Rattle.std.specs.Prelude.{◌≡◌, ◌↔◌, IsTrue, IfOk, Some, length, slice_get};
 ghost use Rattle.crsm_port.specs.Meaning.{Receives, Reserves, Sends};
-ghost use Rattle.crsm_port_node.specs.Senders.{IsOfFirst, IsOwn, SpeaksForItself, counts_of};
+ghost use Rattle.crsm_port.specs.Passing.{HandsUp, PassesOn, Rests};
+ghost use Rattle.crsm_port_peers.specs.Senders.{IsOfFirst, IsOwn, SpeaksForItself, counts_of, own_of};
 
 use crsm_base::{Failed, NoMemory};
 use crsm_port::{Port, Recv};
@@ -47,8 +48,13 @@ fn speaks_for_itself(peers: &[u64], address: u64, bytes: &[u8]) -> bool
 impl<P: Port> Port for PeerPort<P> {
     ghost meaning = { λ p. counts_of (P.meaning p.inner) };
 
+    ghost gives = { λ p. own_of p.peers.items (P.gives p.inner) };
+
+    ghost may_send = { λ p. P.may_send p.inner };
+
     fn recv(&mut self, buf: &mut [u8]) -> Result<Recv, Failed>
         ensures tells { Receives (counts_of (P.meaning self.old.inner)) (counts_of (P.meaning self.new.inner)) buf.old buf.new result }
+        ensures hands_up { HandsUp (own_of self.old.peers.items (P.gives self.old.inner)) (own_of self.new.peers.items (P.gives self.new.inner)) (P.may_send self.old.inner) (P.may_send self.new.inner) buf.new result }
         ensures own { IfOk result (IsOwn self.old.peers.items buf.new) }
         ensures first { IfOk result (IsOfFirst self.old.peers.items (P.meaning self.old.inner) (P.meaning self.new.inner) (length buf.old) buf.new) }
         ensures peers { self.new.peers ≡ self.old.peers }
@@ -63,6 +69,7 @@ impl<P: Port> Port for PeerPort<P> {
 
     fn send(&mut self, to: u64, bytes: &[u8]) -> Result<(), Failed>
         ensures tells { Sends to bytes.now (counts_of (P.meaning self.old.inner)) (counts_of (P.meaning self.new.inner)) result }
+        ensures passes_on { PassesOn (own_of self.old.peers.items (P.gives self.old.inner)) (own_of self.new.peers.items (P.gives self.new.inner)) (P.may_send self.old.inner) (P.may_send self.new.inner) to bytes.now }
         ensures below { Sends to bytes.now (P.meaning self.old.inner) (P.meaning self.new.inner) result }
         ensures peers { self.new.peers ≡ self.old.peers }
     {
@@ -71,6 +78,7 @@ impl<P: Port> Port for PeerPort<P> {
 
     fn reserve(&mut self, sends: u64, bytes: u64) -> Result<(), NoMemory>
         ensures tells { Reserves sends bytes (counts_of (P.meaning self.old.inner)) (counts_of (P.meaning self.new.inner)) result }
+        ensures rests { Rests (own_of self.old.peers.items (P.gives self.old.inner)) (own_of self.new.peers.items (P.gives self.new.inner)) (P.may_send self.old.inner) (P.may_send self.new.inner) }
         ensures below { Reserves sends bytes (P.meaning self.old.inner) (P.meaning self.new.inner) result }
         ensures peers { self.new.peers ≡ self.old.peers }
     {
@@ -79,9 +87,19 @@ impl<P: Port> Port for PeerPort<P> {
 
     fn poll_soon(&mut self)
         ensures tells { counts_of (P.meaning self.new.inner) ≡ counts_of (P.meaning self.old.inner) }
+        ensures rests { Rests (own_of self.old.peers.items (P.gives self.old.inner)) (own_of self.new.peers.items (P.gives self.new.inner)) (P.may_send self.old.inner) (P.may_send self.new.inner) }
         ensures below { P.meaning self.new.inner ≡ P.meaning self.old.inner }
         ensures peers { self.new.peers ≡ self.old.peers }
     {
         self.inner.poll_soon()
+    }
+
+    fn flush(&mut self)
+        ensures tells { counts_of (P.meaning self.new.inner) ≡ counts_of (P.meaning self.old.inner) }
+        ensures rests { Rests (own_of self.old.peers.items (P.gives self.old.inner)) (own_of self.new.peers.items (P.gives self.new.inner)) (P.may_send self.old.inner) (P.may_send self.new.inner) }
+        ensures below { P.meaning self.new.inner ≡ P.meaning self.old.inner }
+        ensures peers { self.new.peers ≡ self.old.peers }
+    {
+        self.inner.flush()
     }
 }

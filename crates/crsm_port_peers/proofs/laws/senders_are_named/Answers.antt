@@ -2,9 +2,9 @@ use Rattle.std.proofs.Common.{◌≡◌, ℕ, Some, ap, ◌∙◌}
 use Rattle.crsm_base.specs.declared.datagram.Datagram.{Datagram}
 use Rattle.crsm_base.specs.declared.datagram.Datagram.TheVariants as datagram
 use Rattle.crsm_base.specs.Messages.{datagram_bytes}
-use Rattle.crsm_port_node.specs.Laws.{sender_of}
+use Rattle.crsm_port_peers.specs.Laws.{sender_of}
 use Rattle.crsm_wire.specs.Marks.{named_sender}
-use Rattle.crsm_port_node.proofs.laws.senders_are_named.Goals as goal
+use Rattle.crsm_port_peers.proofs.laws.senders_are_named.Goals as goal
 
 of_spelling : (d : Datagram) (k : ℕ) → sender_of d ≡ Some k → named_sender (datagram_bytes d) ≡ Some k
 unfolding datagram_bytes

@@ -1,10 +1,11 @@
 -- How the first waiting datagram is returned.
-use Rattle.std.proofs.Common.{◌≡◌, ℕ, false, min, List, ◌++◌, length, take, drop, Ok, refl, ◌∙◌, sym, ap, subst, arith, length-take}
+use Rattle.std.proofs.Common.{◌≡◌, ℕ, inl, inr, [], false, min, List, ◌++◌, length, take, drop, Ok, refl, ◌∙◌, sym, ap, subst, arith, length-take}
 use Rattle.std.specs.Prelude.{IsTrue}
 use Rattle.std.proofs.lemmas.List.{take_at, take_min}
 use Rattle.crsm_port.specs.Meaning.{Meaning, Packet, Receives, Takes, Traffic}
 use Rattle.crsm_port.specs.declared.port.Recv.TheVariants.{Datagram}
-use Rattle.crsm_port_node.specs.Senders.{IsFirst, IsOfFirst, SpeaksForItself}
+use Rattle.crsm_port.specs.Passing.{Datagrams, IsOf, NoMore}
+use Rattle.crsm_port_peers.specs.Senders.{IsFirst, IsOfFirst, SpeaksForItself, own_of}
 
 pub never : IsTrue false → ⊥
 never is = cc
@@ -43,3 +44,11 @@ module _ (peers : List ℕ) (before after : List ℕ) (from len : ℕ) where
             let seen = old.framing.unwrap d in
             let bytes = copied (length before) len seen.bytes after (drop len before) size filled in
             (d, rest, waits, gone, record { address = address; own = λ own. absurd (foreign (of_received seen address bytes own)); foreign = λ _. refl })
+
+-- ---- what is given
+
+pub own_more : (peers : List ℕ) (D E : Datagrams) → NoMore D E → NoMore (own_of peers D) (own_of peers E)
+own_more peers D E more a b is = elim is [
+  | inl none ↦ inl none
+  | inr w ↦ inr (w.0, more a b w.1)
+]

@@ -1,6 +1,7 @@
 -- The sender of a datagram, by its bytes and by the address that it came from.
-use Rattle.std.specs.Prelude.{◌≡◌, ◌↔◌, ℕ, min, List, [], ◌∷◌, ◌++◌, drop, length, take, Option, Some, None, IsSome, ◌&&◌, if◌then◌else◌, slice_get, nat_eq, nat_le}
+use Rattle.std.specs.Prelude.{◌≡◌, ◌↔◌, ◌⊎◌, ℕ, min, List, [], ◌∷◌, ◌++◌, drop, length, take, Option, Some, None, IsSome, ◌&&◌, if◌then◌else◌, slice_get, nat_eq, nat_le}
 use Rattle.crsm_port.specs.Meaning.{Framing, Meaning, Packet, Traffic}
+use Rattle.crsm_port.specs.Passing.{Datagrams}
 use Rattle.crsm_port.specs.Unknown.{unknown}
 use Rattle.crsm_wire.specs.Marks.{behind_any_mark, named_sender}
 use Rattle.crsm_port.specs.declared.port.Recv.{Recv}
@@ -14,6 +15,11 @@ SpeaksForItself peers address bytes = (k : ℕ) → named_sender (behind_any_mar
 abbrev pub IsOwn : List ℕ → List ℕ → Recv → Type 0
 IsOwn peers buffer Nothing = Unit {0}
 IsOwn peers buffer (Datagram from len) = SpeaksForItself peers from (take len buffer)
+
+-- the datagrams that a port gives, where the port below gives these: those that may come from their address, and no
+-- bytes in place of any other
+abbrev pub own_of : List ℕ → Datagrams → Datagrams
+own_of peers D address bytes = (bytes ≡ []) ⊎ (SpeaksForItself peers address bytes × D address bytes)
 
 -- ---- received datagrams
 
