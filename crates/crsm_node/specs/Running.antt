@@ -198,5 +198,9 @@ abbrev pub NotBegun : Devices → Devices → NodeEnd → Type 0
 NotBegun old new end = (end ≡ ends.NoMemory) × Goes old.disk new.disk × (new.disk.seen ≡ old.disk.seen) × (new.clock ≡ old.clock) × (new.sheet ≡ old.sheet)
 
 -- The traffic of the cluster's port went over the port below with its framing.
+abbrev pub RunsNumbered : NodeOrder → Devices → Devices → NodeEnd → Type 0
+RunsNumbered order old new end = ((too_long : ℕ) × Runs order (over_cluster order.cluster 0 old.port.framing old) (over_cluster order.cluster too_long old.port.framing new) end) ⊎ NotBegun old new end
+
+-- The node of cluster 0 runs over the port itself, and that of any other over the port of its cluster.
 abbrev pub RunsOverCluster : NodeOrder → Devices → Devices → NodeEnd → Type 0
-RunsOverCluster order old new end = ((too_long : ℕ) × Runs order (over_cluster order.cluster 0 old.port.framing old) (over_cluster order.cluster too_long old.port.framing new) end) ⊎ NotBegun old new end
+RunsOverCluster order old new end = (order.cluster ≡ 0 → Runs order old new end) × (order.cluster ≢ 0 → RunsNumbered order old new end)

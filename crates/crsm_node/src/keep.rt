@@ -30,10 +30,18 @@ pub(crate) fn keep_group<P: Port, D: Disk, O: Sink>(
     ensures had_failed { IsErrOf result NodeError.Failed → has_failed shell.old ≡ true }
 {
     shell.flush(port)?;
+    let_go(port);
     let written = put_all(sheet, pending.lines.as_slice());
     pending.clear();
     match written {
         Ok(()) => Ok(()),
         Err(_) => Err(NodeError::WriteFault),
     }
+}
+
+/// Lets the port send what waits for the end of the group.
+fn let_go<P: Port>(port: &mut P)
+    ensures { P.meaning port.new ≡ P.meaning port.old }
+{
+    port.flush();
 }
