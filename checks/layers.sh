@@ -15,7 +15,7 @@ declare -A speaks_of=(
   [crsm_law_locks]=' crsm_lease '
   [crsm_law_draws]=' crsm_sim_generator crsm_schedule crsm_world '
   [crsm_law_shown]=' crsm_port crsm_client crsm_lease crsm_cmd_lock '
-  [crsm_law_nodes]=' crsm_ledger crsm_schedule crsm_text_sheet crsm_wire crsm_port_node crsm_replica_rerun '
+  [crsm_law_nodes]=' crsm_ledger crsm_schedule crsm_text_sheet crsm_wire crsm_port_peers crsm_replica_rerun '
 )
 
 declare -A rank=() room_of=() uses=()

@@ -11,5 +11,5 @@ loop-header-preserved g c = (
   next_rest c.args.headers.now c.loop-header.header-index (record { to = 0; len = 0 }) c.args.text.now c.loop-header.rest.now c.split_at.result.1.now c.loop-header-test.true c.loop-header.invariant.0
       c.split_at.ensures.back,
   one_header_more c.args.headers.now c.loop-header.header-index (record { to = 0; len = 0 }) c.args.text.now c.loop-header.rest.now c.split_at.result.0.now _ _ _ c.send.result
-      c.loop-header-test.true c.loop-header.invariant.0 c.split_at.ensures.front c.loop-header.invariant.1 c.send.ensures,
+      c.loop-header-test.true c.loop-header.invariant.0 c.split_at.ensures.front c.loop-header.invariant.1 c.send.ensures.sends,
 )

@@ -15,5 +15,5 @@ returns g c =
     let bytes : length c.as_slice.result.now ≡ bytes_in (packets_of headers text) = ap length c.as_slice.ensures ∙ sym (size_in headers text c.self.invariant) in
     let inside : Reserves (length (packets_of headers text)) (bytes_in (packets_of headers text)) old new c.reserve.result =
     subst (λ (n : ℕ). Reserves n (bytes_in (packets_of headers text)) old new c.reserve.result) many
-    (subst (λ (n : ℕ). Reserves c.len.result n old new c.reserve.result) bytes c.reserve.ensures) in
+    (subst (λ (n : ℕ). Reserves c.len.result n old new c.reserve.result) bytes c.reserve.ensures.reserves) in
     subst (λ ps. Reserves (length ps) (bytes_in ps) old new c.reserve.result) c.self.view_is inside
