@@ -15,7 +15,7 @@ use Rattle.crsm_text_words.specs.Split.{is_usage, taken}
 use Rattle.crsm_text_words.specs.Table.{product_app}
 use Rattle.crsm_text_words.specs.declared.order.Order.{Order}
 use Rattle.crsm_text_words.specs.declared.order.Task.{Task}
-use Rattle.crsm_text_words.specs.declared.order.Task.TheVariants.{Show, Replay, ReplayNode, Node, Client, Operate, Soak, Audit, Lock, Delay, DelayTimes, ReplayMp}
+use Rattle.crsm_text_words.specs.declared.order.Task.TheVariants.{Show, Replay, ReplayNode, Node, Client, Operate, Soak, Audit, Lock, Delay, DelayTimes, ReplayMp, Dump}
 use Rattle.crsm_text_words.specs.declared.read.WordsError.{WordsError}
 use Rattle.crsm_text_words.specs.declared.read.WordsError.TheVariants.{Usage}
 use Rattle.crsm_text_words.proofs.Asking.{one_kind}
@@ -75,6 +75,7 @@ shown_nowhere (Lock t) is names = names
 shown_nowhere Delay is names = names
 shown_nowhere DelayTimes is names = names
 shown_nowhere ReplayMp is names = names
+shown_nowhere (Dump me n part) is names = names
 
 some_front : (number : Text) (rest : List Text) → cluster_words (codes "cluster" ∷ number ∷ rest) ≡ [] → ⊥
 some_front number rest e = cc e
@@ -114,6 +115,7 @@ own_peer (Lock t) words asks = tt
 own_peer Delay words asks = tt
 own_peer DelayTimes words asks = tt
 own_peer ReplayMp words asks = tt
+own_peer (Dump me n part) words asks = tt
 
 shown_peer : (task : Task) → IsShown task → HasOwnPeer task
 shown_peer (Show t) is = tt
@@ -128,6 +130,7 @@ shown_peer (Lock t) is = tt
 shown_peer Delay is = tt
 shown_peer DelayTimes is = tt
 shown_peer ReplayMp is = tt
+shown_peer (Dump me n part) is = tt
 
 made_peer : (words : List Text) (o : Order) → OrderMade words o → HasOwnPeer o.task
 made_peer words o (text no_front is_text why) = shown_peer o.task is_text

@@ -13,7 +13,8 @@ use std::alloc::{AllocError, Global};
 /// The text of help about the commands.
 const COMMANDS: &str =
     "node runs a replica; client and lock ask one, and operate changes the membership.
-replay and replay-mp run a schedule, soak one that it draws; replay-node and audit read the sheets of nodes.
+replay and replay-mp run a schedule, soak one that it draws; replay-node and audit read the sheets of nodes,
+and dump the log of one.
 node, client and operate may stand behind 'cluster C', the number of their cluster.";
 
 static ME_N: [&str; 2] = ["ME", "N"];
@@ -31,6 +32,8 @@ static AUDIT: [&str; 1] = ["N"];
 static LOCK: [&str; 6] = ["TO", "TURNS", "CLIENT", "NUMBER", "KEY", "ACTION"];
 
 static DELAY: [&str; 1] = ["times"];
+
+static DUMP: [&str; 3] = ["ME", "N", "PART"];
 
 /// Declares a command with a name, labels of its values for help, and the minimum and maximum number of its values.
 fn taking<'a>(
@@ -78,6 +81,7 @@ fn product<'a>(alloc: Global) -> Result<Command<'a>, AllocError>
         .subcommand(taking(alloc, "audit", AUDIT.as_slice(), 1, 1)?)?
         .subcommand(taking(alloc, "lock", LOCK.as_slice(), 6, 6)?)?
         .subcommand(taking(alloc, "delay", DELAY.as_slice(), 0, 1)?)?
+        .subcommand(taking(alloc, "dump", DUMP.as_slice(), 2, 3)?)?
         .subcommand(Command::new(alloc, "replay-mp"))
 }
 
