@@ -1,6 +1,7 @@
 pub mod Schedules
 pub mod MpSchedules
 pub mod Sheets
+pub mod Dumps
 pub mod Audits
 pub mod PlanEnds
 pub mod Asking
