@@ -1,7 +1,7 @@
 -- What a dump that ended so says of the input, and which ending an input has.
 use Rattle.std.proofs.Common.{◌≡◌, ◌≢◌, ◌⊎◌, ℕ, ◌+◌, ◌<◌, ◌≤◌, List, [], ◌++◌, length, length-append, append-nil, Option, Some, None, refl, ap, sym, ◌∙◌, subst, arith, inl, inr}
 use Rattle.crsm_base.specs.Limits.{most_log_bytes}
-use Rattle.crsm_io.specs.Streams.{AtEnd, Puts, Takes}
+use Rattle.crsm_io.specs.Streams.{AtEnd, Puts, PutsPrefix, Takes}
 use Rattle.crsm_ledger.specs.declared.error.LedgerError.{LedgerError}
 use Rattle.crsm_ledger.specs.Recovered.{IfBadLog, IsBadAt}
 use Rattle.crsm_log.specs.Format.{found, reading}
@@ -132,6 +132,10 @@ module _ (me n : ℕ) (part : Part) (b a d w : Option Text) where
   pub ended : (file text : Text) → ReadAll b a file → IsDump me n part file text → Puts d w text → Ran me n part DumpEnd.Done b a d w
   unfolding Ran
   ended file text read is puts = record { file = file; text = text; read = read; is = is; puts = puts }
+
+  pub partly : (file text : Text) → ReadAll b a file → IsDump me n part file text → PutsPrefix d w text → Ran me n part DumpEnd.WriteFault b a d w
+  unfolding Ran
+  partly file text read is puts = record { file = file; text = text; read = read; is = is; puts = puts }
 
 -- ---- files that are refused
 
