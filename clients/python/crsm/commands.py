@@ -314,32 +314,50 @@ def _run(command: list[str], fence: int, descriptor: int) -> int:
     even if this process is killed.
     """
     environment = {**os.environ, "CRSM_FENCE": str(fence)}
-    try:
-        child = subprocess.Popen(command, env=environment, pass_fds=[descriptor])
-    except FileNotFoundError:
-        raise Failed(Status.NO_SUCH_PROGRAM, f"no such program: {command[0]}") from None
-    except OSError as error:
-        raise Failed(Status.CANNOT_RUN, f"{command[0]} cannot be run: {error}") from None
-    with _passing_signals_to(child):
+    with _passing_signals() as passing:
+        try:
+            child = subprocess.Popen(command, env=environment, pass_fds=[descriptor])
+        except FileNotFoundError:
+            raise Failed(Status.NO_SUCH_PROGRAM, f"no such program: {command[0]}") from None
+        except OSError as error:
+            raise Failed(Status.CANNOT_RUN, f"{command[0]} cannot be run: {error}") from None
+        passing.to(child)
         status = child.wait()
     return 128 - status if status < 0 else status
 
 
-@contextlib.contextmanager
-def _passing_signals_to(child: subprocess.Popen[bytes]) -> Iterator[None]:
-    """Hands SIGTERM and SIGHUP on to the child, and outlives those that a terminal sends to both."""
+class _Passing:
+    """Hands signals on to a child, those too that come before it is there."""
 
-    def hand_on(number: int, _: FrameType | None) -> None:
-        child.send_signal(number)
+    def __init__(self) -> None:
+        self._child: subprocess.Popen[bytes] | None = None
+        self._early: list[int] = []
+
+    def hand_on(self, number: int, _: FrameType | None) -> None:
+        if self._child is None:
+            self._early.append(number)
+        else:
+            self._child.send_signal(number)
+
+    def to(self, child: subprocess.Popen[bytes]) -> None:
+        self._child = child
+        for number in self._early:
+            child.send_signal(number)
+
+
+@contextlib.contextmanager
+def _passing_signals() -> Iterator[_Passing]:
+    """Hands SIGTERM and SIGHUP on to a child, and outlives those that a terminal sends to both."""
+    passing = _Passing()
 
     def leave_to_child(_number: int, _frame: FrameType | None) -> None:
         pass
 
-    handlers = [(signal.SIGTERM, hand_on), (signal.SIGHUP, hand_on)]
+    handlers = [(signal.SIGTERM, passing.hand_on), (signal.SIGHUP, passing.hand_on)]
     handlers += [(signal.SIGINT, leave_to_child), (signal.SIGQUIT, leave_to_child)]
     before = {number: signal.signal(number, handler) for number, handler in handlers}
     try:
-        yield
+        yield passing
     finally:
         for number, handler in before.items():
             signal.signal(number, handler)
