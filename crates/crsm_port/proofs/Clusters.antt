@@ -42,6 +42,7 @@ came (suc c) too_long old new room wire before after own from len own_len some s
   not_empty = tt;
   taken = λ t u a b. takes t u (r.taken t u a b);
   untaken = tt;
+  too_long = refl;
   told = r.told;
   framing = ap (over (suc c)) r.framing;
   borrowed_as = r.borrowed_as;

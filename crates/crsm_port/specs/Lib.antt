@@ -4,5 +4,6 @@ pub mod Inside
 pub mod Meaning
 pub mod Memory
 pub mod Packets
+pub mod Passing
 pub mod Sent
 pub mod Unknown

@@ -38,6 +38,8 @@ pub record Meaning : Type 0 where
   pub faults : ℕ
   pub losses : ℕ
   pub empties : ℕ
+  -- the losses of sends that the port itself refused for their length
+  pub too_long : ℕ
   -- the ghost name of the reference by which the port is borrowed
   pub borrowed_as : Option ℕ
 
@@ -68,6 +70,7 @@ pub record Receives (old new : Meaning) (before after : List ℕ) (result : Resu
   pub not_empty : OnErr result (new.empties ≡ old.empties)
   pub taken : (t u : Traffic) → old.traffic ≡ Some t → new.traffic ≡ Some u → IfOk result (Takes old.framing t u before after)
   pub untaken : OnErr result (new.traffic ≡ old.traffic)
+  pub too_long : new.too_long ≡ old.too_long
   pub told : IsSome old.traffic ↔ IsSome new.traffic
   pub framing : new.framing ≡ old.framing
   pub borrowed_as : new.borrowed_as ≡ old.borrowed_as
@@ -76,6 +79,10 @@ pub record Receives (old new : Meaning) (before after : List ℕ) (result : Resu
 -- the traffic with one more datagram sent
 abbrev pub with_sent : Packet → Traffic → Traffic
 with_sent d t = record t { sent = t.sent ++ d ∷ [] }
+
+-- short enough for each port
+abbrev pub IsShort : List ℕ → Type 0
+IsShort bytes = length bytes ≤ 8183
 
 -- the contract of a send
 pub record Sends {T : Type 0} (to : ℕ) (bytes : List ℕ) (old new : Meaning) (result : Result T Failed) : Type 0 where
@@ -86,6 +93,7 @@ pub record Sends {T : Type 0} (to : ℕ) (bytes : List ℕ) (old new : Meaning) 
   pub empties : new.empties ≡ old.empties
   pub sent : OnOk result (new.traffic ≡ option_map (with_sent (old.framing.wrap (record { address = to; bytes = bytes }))) old.traffic)
   pub unsent : OnErr result (new.traffic ≡ old.traffic)
+  pub too_long : IsShort bytes → new.too_long ≡ old.too_long
   pub framing : new.framing ≡ old.framing
   pub borrowed_as : new.borrowed_as ≡ old.borrowed_as
   pub plan : Spends 1 (length bytes) old.plan new.plan result

@@ -28,5 +28,6 @@ meaning_of m = record {
   faults = m.faults;
   losses = m.losses;
   empties = m.empties;
+  too_long = 0;
   borrowed_as = None;
 }

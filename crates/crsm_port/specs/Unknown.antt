@@ -10,5 +10,6 @@ unknown faults losses empties = record {
   faults = faults;
   losses = losses;
   empties = empties;
+  too_long = 0;
   borrowed_as = None;
 }

@@ -1,8 +1,9 @@
 //! The port of one cluster, over a port that the clusters of a network share.
 
 ghost use Rattle.std.specs.Prelude.{◌≡◌, ◌≢◌, ℕ, ◌+◌, ◌++◌, ◌*◌, ◌≤◌, length, take, IfOk, IfSome};
-ghost use Rattle.crsm_port.specs.Meaning.{Receives, Sends};
-ghost use Rattle.crsm_port.specs.Cluster.{IsShort, clustered, unwrapped, wrapped};
+ghost use Rattle.crsm_port.specs.Meaning.{IsShort, Receives, Sends};
+ghost use Rattle.crsm_port.specs.Passing.{HandsUp, PassesOn};
+ghost use Rattle.crsm_port.specs.Cluster.{IsShortIn, clustered, given_to, sent_by, unwrapped, wrapped};
 ghost use Rattle.crsm_wire.specs.Marks.{mark_of};
 
 use crate::memory::copy;
@@ -60,7 +61,8 @@ fn recv_wrapped<P: Port>(
 ) -> Result<Recv, Failed>
     requires cluster { cluster ≢ 0 }
     requires room { length wire.old ≡ 8201 }
-    ensures { (too_long : ℕ) → Receives (clustered cluster too_long (P.meaning inner.old)) (clustered cluster too_long (P.meaning inner.new)) buf.old buf.new result }
+    ensures receives { (too_long : ℕ) → Receives (clustered cluster too_long (P.meaning inner.old)) (clustered cluster too_long (P.meaning inner.new)) buf.old buf.new result }
+    ensures hands_up { HandsUp (given_to cluster (P.gives inner.old)) (given_to cluster (P.gives inner.new)) (sent_by cluster (P.may_send inner.old)) (sent_by cluster (P.may_send inner.new)) buf.new result }
 {
     match inner.recv(wire) {
         Err(Failed) => Err(Failed),
@@ -76,8 +78,9 @@ impl<P: Port> ClusterPort<P> {
     // The caller has checked that the datagram fits in the buffer with its mark.
     fn send_wrapped(&mut self, to: u64, bytes: &[u8]) -> Result<(), Failed>
         requires cluster { self.old.cluster ≢ 0 }
-        requires short { length bytes.now ≤ 8183 }
+        requires short { IsShort bytes.now }
         ensures inner { Sends to (wrapped self.old.cluster bytes.now) (P.meaning self.old.inner) (P.meaning self.new.inner) result }
+        ensures passes_on { PassesOn (P.gives self.old.inner) (P.gives self.new.inner) (P.may_send self.old.inner) (P.may_send self.new.inner) to (wrapped self.old.cluster bytes.now) }
         ensures same { (self.new.cluster ≡ self.old.cluster) × (self.new.too_long ≡ self.old.too_long) }
     {
         let len = wrap(&mut self.room, self.cluster, bytes);
@@ -110,6 +113,10 @@ fn own_bytes(wire: &[u8], cluster: u64) -> &[u8]
 impl<P: Port> Port for ClusterPort<P> {
     ghost meaning = { λ p. clustered p.cluster p.too_long (P.meaning p.inner) };
 
+    ghost gives = { λ p. given_to p.cluster (P.gives p.inner) };
+
+    ghost may_send = { λ p. sent_by p.cluster (P.may_send p.inner) };
+
     fn recv(&mut self, buf: &mut [u8]) -> Result<Recv, Failed> {
         match self.cluster {
             0 => self.inner.recv(buf),
@@ -119,9 +126,10 @@ impl<P: Port> Port for ClusterPort<P> {
 
     fn send(&mut self, to: u64, bytes: &[u8]) -> Result<(), Failed>
         ensures sends { Sends to bytes.now (clustered self.old.cluster self.old.too_long (P.meaning self.old.inner)) (clustered self.new.cluster self.new.too_long (P.meaning self.new.inner)) result }
-        ensures fits { IsShort self.old.cluster bytes.now → Sends to (wrapped self.old.cluster bytes.now) (P.meaning self.old.inner) (P.meaning self.new.inner) result }
-        ensures too_long { (IsShort self.old.cluster bytes.now → ⊥) → P.meaning self.new.inner ≡ P.meaning self.old.inner }
-        ensures counted { IsShort self.old.cluster bytes.now → self.new.too_long ≡ self.old.too_long }
+        ensures passes_on { PassesOn (given_to self.old.cluster (P.gives self.old.inner)) (given_to self.new.cluster (P.gives self.new.inner)) (sent_by self.old.cluster (P.may_send self.old.inner)) (sent_by self.new.cluster (P.may_send self.new.inner)) to bytes.now }
+        ensures fits { IsShortIn self.old.cluster bytes.now → Sends to (wrapped self.old.cluster bytes.now) (P.meaning self.old.inner) (P.meaning self.new.inner) result }
+        ensures too_long { (IsShortIn self.old.cluster bytes.now → ⊥) → P.meaning self.new.inner ≡ P.meaning self.old.inner }
+        ensures counted { IsShortIn self.old.cluster bytes.now → self.new.too_long ≡ self.old.too_long }
     {
         if self.cluster == 0 {
             return self.inner.send(to, bytes);
@@ -142,6 +150,10 @@ impl<P: Port> Port for ClusterPort<P> {
 
     fn poll_soon(&mut self) {
         self.inner.poll_soon()
+    }
+
+    fn flush(&mut self) {
+        self.inner.flush()
     }
 }
 

@@ -5,6 +5,7 @@ ghost use Rattle.crsm_port_faults.specs.Counts.{raised, Rose};
 ghost use Rattle.crsm_port_faults.specs.Failing.{IsNotEnd, good_of, one_less};
 ghost use Rattle.crsm_port.specs.Meaning.{CountsEmpty, Takes, plain};
 ghost use Rattle.crsm_port.specs.Memory.{meaning_of, traffic_of};
+ghost use Rattle.crsm_port.specs.Passing.{Among, Cut};
 ghost use Rattle.crsm_port.specs.Sent.{packets_of};
 
 use crate::{Port, Recv, SentPackets};
@@ -157,6 +158,10 @@ pub(crate) fn copy(bytes: &[u8], buf: &mut [u8]) -> usize
 
 impl Port for MemPort {
     ghost meaning = { meaning_of };
+
+    ghost gives = { λ p. Cut (Among (traffic_of p).waiting) };
+
+    ghost may_send = { λ p. Among p.sent };
 
     fn recv(&mut self, buf: &mut [u8]) -> Result<Recv, Failed> {
         if self.failures.next_fails() {

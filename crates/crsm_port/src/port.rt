@@ -2,6 +2,7 @@
 
 ghost use Rattle.std.specs.Prelude.{◌≡◌, Some};
 ghost use Rattle.crsm_port.specs.Meaning.{Meaning, Receives, Reserves, Sends};
+ghost use Rattle.crsm_port.specs.Passing.{AnyDatagram, Datagrams, HandsUp, PassesOn, Rests};
 
 use crsm_base::{Failed, NoMemory};
 
@@ -19,28 +20,50 @@ pub enum Recv {
 pub trait Port {
     ghost meaning: { Self → Meaning };
 
+    /// The datagrams that a receive may hand up.
+    ghost gives: { Self → Datagrams } = { λ _. AnyDatagram };
+
+    /// The datagrams that were sent or may still be.
+    ghost may_send: { Self → Datagrams } = { λ _. AnyDatagram };
+
     /// Receives the next datagram, cut to the length of `buf`. `Nothing` only if the counter of empty receives rose;
     /// `Failed` only if the counter of faults rose.
     fn recv(&mut self, buf: &mut [u8]) -> Result<Recv, Failed>
-        ensures { Receives (meaning self.old) (meaning self.new) buf.old buf.new result };
+        ensures receives { Receives (meaning self.old) (meaning self.new) buf.old buf.new result }
+        ensures hands_up { HandsUp (gives self.old) (gives self.new) (may_send self.old) (may_send self.new) buf.new result };
 
-    /// Sends a datagram to an address. `Failed` only if the counter of losses rose.
+    /// Sends a datagram to an address, at once or later. `Failed` only if the counter of losses rose. No port refuses a
+    /// datagram of at most 8,183 bytes for its length.
     fn send(&mut self, to: u64, bytes: &[u8]) -> Result<(), Failed>
-        ensures { Sends to bytes.now (meaning self.old) (meaning self.new) result };
+        ensures sends { Sends to bytes.now (meaning self.old) (meaning self.new) result }
+        ensures passes_on { PassesOn (gives self.old) (gives self.new) (may_send self.old) (may_send self.new) to bytes.now };
 
     /// Reserves memory for `sends` datagrams of `bytes` bytes together, on a port that keeps what it sends. `NoMemory`
     /// if memory runs out.
     fn reserve(&mut self, sends: u64, bytes: u64) -> Result<(), NoMemory>
-        ensures { Reserves sends bytes (meaning self.old) (meaning self.new) result };
+        ensures reserves { Reserves sends bytes (meaning self.old) (meaning self.new) result }
+        ensures rests { Rests (gives self.old) (gives self.new) (may_send self.old) (may_send self.new) };
 
     /// Asks that the next receive returns at once if no datagram has arrived. Ports that never wait ignore it.
     fn poll_soon(&mut self)
-        ensures { meaning self.new ≡ meaning self.old }
+        ensures same { meaning self.new ≡ meaning self.old }
+        ensures rests { Rests (gives self.old) (gives self.new) (may_send self.old) (may_send self.new) }
+    {}
+
+    /// Sends the datagrams that wait for others to the same address, on a port that sends several as one packet. A node
+    /// calls it once the datagrams of a group are sent.
+    fn flush(&mut self)
+        ensures same { meaning self.new ≡ meaning self.old }
+        ensures rests { Rests (gives self.old) (gives self.new) (may_send self.old) (may_send self.new) }
     {}
 }
 
 impl<P: Port> Port for &mut P {
     ghost meaning = { λ p. record (P.meaning p.now) { borrowed_as = Some p.ghost_name } };
+
+    ghost gives = { λ p. P.gives p.now };
+
+    ghost may_send = { λ p. P.may_send p.now };
 
     fn recv(&mut self, buf: &mut [u8]) -> Result<Recv, Failed> {
         (**self).recv(buf)
@@ -56,5 +79,9 @@ impl<P: Port> Port for &mut P {
 
     fn poll_soon(&mut self) {
         (**self).poll_soon()
+    }
+
+    fn flush(&mut self) {
+        (**self).flush()
     }
 }

@@ -1,6 +1,6 @@
 //! Lists of sent datagrams.
 
-ghost use Rattle.std.specs.Prelude.{◌≡◌, ◌+◌, ◌<◌, ◌≤◌, ◌↔◌, [], ◌∷◌, ◌++◌, length, IsNone, IsTrue, IfSome, OnOk, Some, take, drop, slice_get, vec_len, vec_capacity};
+ghost use Rattle.std.specs.Prelude.{◌≡◌, ◌+◌, ◌<◌, ◌≤◌, ◌↔◌, [], ◌∷◌, ◌++◌, length, IsNone, IsTrue, IfSome, OnOk, OnErr, Some, take, drop, slice_get, vec_len, vec_capacity};
 ghost use Rattle.crsm_port.specs.Packets.{is_within, packets};
 
 use crsm_base::NoMemory;
@@ -23,7 +23,8 @@ pub struct SentPackets {
 }
 
 impl SentPackets {
-    pub(crate) fn new(alloc: Global) -> SentPackets
+    /// Returns an empty list.
+    pub fn new(alloc: Global) -> SentPackets
         ensures { packets result.labels.items result.bytes.items ≡ [] }
     {
         SentPackets {
@@ -50,14 +51,24 @@ impl SentPackets {
         }
     }
 
-    // Removes all datagrams and keeps their memory.
-    pub(crate) fn clear(&mut self)
+    /// Removes all datagrams and keeps their memory.
+    pub fn clear(&mut self)
         ensures packets { packets self.new.labels.items self.new.bytes.items ≡ [] }
         ensures lengths { (vec_len self.new.labels ≡ 0) × (vec_len self.new.bytes ≡ 0) }
         ensures capacity { (vec_capacity self.new.labels ≡ vec_capacity self.old.labels) × (vec_capacity self.new.bytes ≡ vec_capacity self.old.bytes) }
     {
         self.labels.clear();
         self.bytes.clear();
+    }
+
+    /// Appends a datagram. `NoMemory` if memory runs out; the list is then unchanged.
+    pub fn add(&mut self, address: u64, bytes: &[u8]) -> Result<(), NoMemory>
+        ensures ok { OnOk result (packets self.new.labels.items self.new.bytes.items ≡ packets self.old.labels.items self.old.bytes.items ++ (record { address = address; bytes = bytes.now }) ∷ []) }
+        ensures err { OnErr result (packets self.new.labels.items self.new.bytes.items ≡ packets self.old.labels.items self.old.bytes.items) }
+    {
+        self.reserve(1, bytes.len())?;
+        self.push(address, bytes);
+        Ok(())
     }
 
     // Reserves memory for this many more datagrams and bytes.

@@ -1,0 +1,4 @@
+mod Flows
+mod Keepings
+mod Sendings
+mod Turns

@@ -1,0 +1,142 @@
+//! Which peers this node hears, and which of them hear it.
+
+ghost use Rattle.std.specs.Prelude.{◌≡◌, ◌∷◌, ℕ, List};
+ghost use Rattle.crsm_port.specs.Meaning.{Packet};
+ghost use Rattle.crsm_port.specs.Passing.{NoMore, either};
+ghost use Rattle.crsm_port_flow.specs.Acks.{AllSay, SaysHearing};
+ghost use Rattle.crsm_port_flow.specs.Waits.{SendsAll};
+
+use crate::time::is_recent;
+use crsm_base::NoMemory;
+use crsm_port::Port;
+use std::alloc::Global;
+
+/// The first byte of a datagram that says whom a node hears. A replica's datagrams begin with others.
+const HEARING: u8 = 18;
+
+/// Time in microseconds between two such datagrams, and time for which a peer counts as heard.
+const PAUSE: u64 = 1_000_000;
+
+const HEARD_FOR: u64 = 2_000_000;
+
+/// Number of such datagrams in a row from which on a peer that does not hear this node is not heard either.
+const MOST_DEAF: u32 = 3;
+
+/// A peer: its address, the reading at which a datagram of it came last, and how often in a row it said that it does
+/// not hear this node.
+#[derive(Clone, Copy)]
+struct Peer {
+    address: u64,
+    heard_at: Option<u64>,
+    deaf: u32,
+}
+
+impl Peer {
+    /// Returns whether a datagram of the peer came a moment ago.
+    fn is_heard(&self, now: u64) -> bool {
+        self.heard_at
+            .is_some_and(|at| is_recent(at, now, HEARD_FOR))
+    }
+}
+
+/// What a node knows of its peers. A link that loses all packets one way is closed in the other direction as well, so
+/// that both its ends suspect each other. A peer that never says whom it hears is always heard.
+#[derive(Drop)]
+pub(crate) struct Hearing {
+    me: usize,
+    peers: Vec<Peer>,
+    said_at: Option<u64>,
+}
+
+/// What becomes of a datagram from an address.
+#[derive(Clone, Copy, PartialEq)]
+pub(crate) enum Heard {
+    /// It is handed up.
+    Open,
+    /// It comes from a peer that does not hear this node.
+    Closed,
+    /// It says whom a peer hears.
+    Says,
+}
+
+/// Returns whether the bit of a replica is set.
+fn has_bit(mask: u16, replica: usize) -> bool {
+    replica < 16 && mask >> replica & 1 == 1
+}
+
+impl Hearing {
+    /// Returns what replica `me` knows before the first datagram, where replica `k` has the address `peers[k]`.
+    /// `NoMemory` if memory runs out.
+    pub(crate) fn new(alloc: Global, me: usize, peers: &[u64]) -> Result<Hearing, NoMemory> {
+        let mut known = Vec::with_capacity(alloc, peers.len())?;
+        for address in peers {
+            known.push(Peer {
+                address: *address,
+                heard_at: None,
+                deaf: 0,
+            })?;
+        }
+        Ok(Hearing {
+            me,
+            peers: known,
+            said_at: None,
+        })
+    }
+
+    /// Records a datagram, and returns what becomes of it.
+    pub(crate) fn note(&mut self, from: u64, bytes: &[u8], now: u64) -> Heard {
+        let me = self.me;
+        for peer in &mut self.peers {
+            if peer.address == from {
+                peer.heard_at = Some(now);
+                if let [HEARING, high, low, ..] = bytes {
+                    let hears_me = has_bit(u16::from_be_bytes([*high, *low]), me);
+                    peer.deaf = if hears_me {
+                        0
+                    } else {
+                        peer.deaf.saturating_add(1)
+                    };
+                    return Heard::Says;
+                }
+                return if peer.deaf >= MOST_DEAF {
+                    Heard::Closed
+                } else {
+                    Heard::Open
+                };
+            }
+        }
+        Heard::Open
+    }
+
+    /// Returns the datagram that says whom this node hears: a bit for each replica, replica 0 the lowest.
+    fn saying(&self, now: u64) -> [u8; 3]
+        ensures { (mask : List ℕ) × (result ≡ 18 ∷ mask) }
+    {
+        let mut mask = 0u16;
+        for (replica, peer) in self.peers.iter().enumerate() {
+            if replica < 16 && peer.is_heard(now) {
+                mask |= 1 << replica;
+            }
+        }
+        let [high, low] = mask.to_be_bytes();
+        [HEARING, high, low]
+    }
+
+    /// Says to each peer whom this node hears, once a second.
+    pub(crate) fn say<P: Port>(&mut self, now: u64, port: &mut P)
+        ensures said { (said : List Packet) × AllSay said × SendsAll said (P.meaning port.old) (P.meaning port.new) }
+        ensures gives { NoMore (P.gives port.old) (P.gives port.new) }
+        ensures sends { NoMore (either (P.may_send port.old) SaysHearing) (P.may_send port.new) }
+    {
+        if self.said_at.is_some_and(|at| is_recent(at, now, PAUSE)) {
+            return;
+        }
+        self.said_at = Some(now);
+        let saying = self.saying(now);
+        for (replica, peer) in self.peers.iter().enumerate() {
+            if replica != self.me {
+                let _ = port.send(peer.address, &saying);
+            }
+        }
+    }
+}

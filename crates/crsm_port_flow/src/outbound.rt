@@ -1,0 +1,78 @@
+//! Which datagrams are sent, and which were sent a moment ago.
+
+ghost use Rattle.std.specs.Prelude.{◌≡◌, [], false, IfOk};
+ghost use Rattle.crsm_port.specs.Passing.{OneMore};
+ghost use Rattle.crsm_port_flow.specs.Acks.{held_in};
+ghost use Rattle.crsm_port_flow.specs.Waits.{MayWait};
+
+use crate::acks::LastAcks;
+use crate::heads::{frame_in, part_in};
+use crate::parts::RecentParts;
+use crate::repeats::Repeats;
+use crate::window::Window;
+use crsm_base::NoMemory;
+use crsm_wire::{PacketHead, peek};
+use std::alloc::Global;
+
+/// What was sent, and the acknowledgements that are held.
+#[derive(Drop)]
+pub(crate) struct Outbound {
+    pub(crate) acks: LastAcks,
+    repeats: Repeats,
+    parts: RecentParts,
+    window: Window,
+}
+
+impl Outbound {
+    /// Returns a state in which nothing was sent, or `NoMemory` if memory runs out.
+    pub(crate) fn new(alloc: Global) -> Result<Outbound, NoMemory>
+        ensures { IfOk result (λ o. o.acks.acks.items ≡ []) }
+    {
+        Ok(Outbound {
+            acks: LastAcks::new(alloc)?,
+            repeats: Repeats::new(alloc)?,
+            parts: RecentParts::new(alloc)?,
+            window: Window::new(),
+        })
+    }
+
+    /// Returns whether a datagram is to be sent now: an acknowledgement is held, and what went out a moment ago does
+    /// not go out again.
+    pub(crate) fn may_go(&mut self, to: u64, bytes: &[u8], now: u64) -> bool
+        ensures held { OneMore to bytes.now (held_in self.old.acks.acks.items) (held_in self.new.acks.acks.items) }
+        ensures later { result ≡ false → MayWait to bytes.now now self.old self.new }
+    {
+        if let Some(frame) = frame_in(bytes) {
+            self.window.note_sent(frame, now);
+            return self.repeats.may_go(frame, now);
+        }
+        if let Some(part) = part_in(bytes) {
+            return self.parts.may_go(to, part, now);
+        }
+        match peek(bytes) {
+            PacketHead::Ack { .. } => !self.acks.hold(to, bytes),
+            _ => true,
+        }
+    }
+
+    /// Records what a received acknowledgement says.
+    pub(crate) fn note_received(&mut self, bytes: &[u8], now: u64)
+        ensures { self.new.acks ≡ self.old.acks }
+    {
+        if let PacketHead::Ack {
+            from,
+            epoch,
+            next,
+            ..
+        } = peek(bytes)
+        {
+            self.repeats.note_expected(from, epoch, next);
+            self.window.note_expected(from, epoch, next, now);
+        }
+    }
+
+    /// Returns whether no peer is so far behind that requests have to wait.
+    pub(crate) fn admits(&self, now: u64) -> bool {
+        !self.window.is_full(now)
+    }
+}

@@ -1,0 +1,175 @@
+//! Requests that wait until the node has room for them.
+
+ghost use Rattle.std.specs.Prelude.{◌≡◌, ◌++◌, ◌∷◌, [], None, IfSome, OnOk, OnErr};
+ghost use Rattle.crsm_port_flow.specs.Turns.{AreInTime, IsOver, IsUnderWay, TakesFirst};
+
+use crate::commands::{Command, Commands, OPEN_TIME, WAITING_TIME};
+use crate::time::is_recent;
+use crsm_base::NoMemory;
+use std::alloc::Global;
+use std::collections::VecDeque;
+
+/// Number of unanswered commands from which on a node refuses more, and maximum number of requests that wait here.
+const MOST_OPEN: usize = 64;
+
+const MOST_WAITING: usize = 1_024;
+
+/// A request that waits: its command, the slot of its datagram, and the reading since which it waits.
+#[derive(Clone, Copy)]
+struct Waiting {
+    command: Command,
+    slot: usize,
+    since: u64,
+}
+
+/// A command that the node received, and the reading at which it did.
+#[derive(Clone, Copy)]
+struct Opened {
+    command: Command,
+    since: u64,
+}
+
+/// What becomes of a received request.
+#[derive(Clone, Copy, PartialEq)]
+pub(crate) enum RequestFate {
+    Waits,
+    /// The node has it already, or it waits already: it goes no further.
+    IsUnderWay,
+    /// So many wait that the node itself has to refuse it.
+    HasNoRoom,
+}
+
+/// The requests that wait, the oldest first, and the commands that the node has not answered.
+#[derive(Drop)]
+pub(crate) struct Requests {
+    commands: Commands,
+    waiting: VecDeque<Waiting>,
+    opened: VecDeque<Opened>,
+    open: usize,
+}
+
+impl Requests {
+    /// Returns an empty record, or `NoMemory` if memory runs out.
+    pub(crate) fn new(alloc: Global) -> Result<Requests, NoMemory> {
+        Ok(Requests {
+            commands: Commands::new(alloc)?,
+            waiting: VecDeque::new(alloc),
+            opened: VecDeque::new(alloc),
+            open: 0,
+        })
+    }
+
+    /// Returns what becomes of a received request.
+    pub(crate) fn fate(&self, command: Command, now: u64) -> RequestFate
+        ensures { result ≡ RequestFate.IsUnderWay → IsUnderWay command now self.now.commands.places.items }
+    {
+        if self.commands.is_under_way(command, now) {
+            RequestFate::IsUnderWay
+        } else if self.waiting.len() < MOST_WAITING {
+            RequestFate::Waits
+        } else {
+            RequestFate::HasNoRoom
+        }
+    }
+
+    /// Appends a request to those that wait. `NoMemory` if memory runs out.
+    pub(crate) fn keep(&mut self, command: Command, slot: usize, now: u64) -> Result<(), NoMemory>
+        ensures last { OnOk result (self.new.waiting.items ≡ self.old.waiting.items ++ (record { command = command; slot = slot; since = now }) ∷ []) }
+        ensures same { OnErr result (self.new.waiting.items ≡ self.old.waiting.items) }
+    {
+        self.waiting.push_back(Waiting {
+            command,
+            slot,
+            since: now,
+        })?;
+        let displaced = self.commands.note_waiting(command, now);
+        self.note_displaced(displaced);
+        Ok(())
+    }
+
+    /// Removes the oldest request if it has waited too long, and returns its slot; or `None`.
+    pub(crate) fn take_expired(&mut self, now: u64) -> Option<usize>
+        ensures first { IfSome result (λ slot. (r : Waiting) × (self.old.waiting.items ≡ r ∷ self.new.waiting.items) × (r.slot ≡ slot) × IsOver now r) }
+        ensures none { result ≡ None → (self.new.waiting.items ≡ self.old.waiting.items) × AreInTime now self.new.waiting.items }
+    {
+        let oldest = *self.waiting.front()?;
+        if is_recent(oldest.since, now, WAITING_TIME) {
+            return None;
+        }
+        let _ = self.waiting.pop_front();
+        let _ = self.commands.note_gone(oldest.command);
+        Some(oldest.slot)
+    }
+
+    /// Returns whether a request waits and the node has room for it.
+    pub(crate) fn has_ready(&mut self, now: u64) -> bool
+        ensures { self.new.waiting ≡ self.old.waiting }
+    {
+        !self.waiting.is_empty() && self.has_room(now)
+    }
+
+    /// Returns whether the node has room for one more.
+    fn has_room(&mut self, now: u64) -> bool
+        ensures { self.new.waiting ≡ self.old.waiting }
+    {
+        if self.open >= MOST_OPEN {
+            self.forget_old(now);
+        }
+        self.open < MOST_OPEN
+    }
+
+    /// Removes the oldest commands that were answered or have waited too long for their reply. These no longer count.
+    fn forget_old(&mut self, now: u64)
+        ensures { self.new.waiting ≡ self.old.waiting }
+    {
+        for _ in 0..self.opened.len() {
+            let Some(oldest) = self.opened.front() else {
+                return;
+            };
+            let Opened { command, since } = *oldest;
+            if self.commands.is_open_since(command, since) {
+                if is_recent(since, now, OPEN_TIME) {
+                    return;
+                }
+                self.note_answered(command);
+            }
+            let _ = self.opened.pop_front();
+        }
+    }
+
+    /// Removes the oldest waiting request, and returns its slot. The node has its command from now on.
+    pub(crate) fn take(&mut self, now: u64) -> Option<usize>
+        ensures first { IfSome result (λ slot. TakesFirst slot self.old.waiting.items self.new.waiting.items) }
+        ensures none { result ≡ None → (self.old.waiting.items ≡ []) × (self.new.waiting.items ≡ []) }
+    {
+        self.forget_old(now);
+        let Waiting { command, slot, .. } = self.waiting.pop_front()?;
+        let opened = Opened {
+            command,
+            since: now,
+        };
+        if self.opened.push_back(opened).is_ok() {
+            let displaced = self.commands.note_open(command, now);
+            self.open = self.open.saturating_add(1);
+            self.note_displaced(displaced);
+        }
+        Some(slot)
+    }
+
+    /// Records that an open command was forgotten, if it was.
+    fn note_displaced(&mut self, was_open: bool)
+        ensures { self.new.waiting ≡ self.old.waiting }
+    {
+        if was_open {
+            self.open = self.open.saturating_sub(1);
+        }
+    }
+
+    /// Records that the node has answered a command.
+    pub(crate) fn note_answered(&mut self, command: Command)
+        ensures { self.new.waiting ≡ self.old.waiting }
+    {
+        let was_open = self.commands.note_gone(command);
+        self.note_displaced(was_open);
+    }
+}

@@ -1,0 +1,26 @@
+use Rattle.crsm_port_packets.specs.Held.{unpacked}
+use Rattle.crsm_port_packets.proofs.Openings.{is_next, ok_may_be_of, waits_less}
+use Rattle.crsm_port_packets.proofs.Passings.{no_more_than}
+use Rattle.crsm_port_packets.proofs.packets.PacketsPort.next_or_none.Goals as goal
+
+pub returns-in-Some-clause-given : goal.returns-in-Some-clause-given
+returns-in-Some-clause-given g c = is_next (g.P.Port.gives c.args.self.now.port) c.args.self.now.received c.next.new.buf c.in-Some.got c.in-Some.ensures.waited
+
+pub returns-in-Some-clause-rest : goal.returns-in-Some-clause-rest
+returns-in-Some-clause-rest g c =
+    let P = g.P.Port.gives c.args.self.now.port in
+    waits_less P P c.args.self.now.received c.next.new.self (λ a d is. is) c.next.ensures.rest c.next.ensures.same
+
+pub returns-in-None-clause-given : goal.returns-in-None-clause-given
+returns-in-None-clause-given g c =
+    let P = g.P.Port.gives c.args.self.now.port in
+    let old = c.args.self.now.received in
+    ok_may_be_of (unpacked P old) (unpacked P c.next.new.self) c.take_packet.new.buf c.take_packet.result (waits_less P P old c.next.new.self (λ a d is. is) c.next.ensures.rest c.next.ensures.same) c.take_packet.ensures.given
+
+pub returns-in-None-clause-rest : goal.returns-in-None-clause-rest
+returns-in-None-clause-rest g c =
+    let P = g.P.Port.gives c.args.self.now.port in
+    let old = c.args.self.now.received in
+    let new = c.take_packet.new.self in
+    no_more_than (unpacked P old) (unpacked P c.next.new.self) (unpacked (g.P.Port.gives new.port) new.received)
+    (waits_less P P old c.next.new.self (λ a d is. is) c.next.ensures.rest c.next.ensures.same) c.take_packet.ensures.rest

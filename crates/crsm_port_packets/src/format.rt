@@ -1,0 +1,124 @@
+//! The format of packets. A packet is a plain datagram, or it has the byte 17, a kind, and:
+//!
+//! - kind 0: a bundle. Each of its datagrams follows its length, a u16. A bundle without a datagram is a greeting.
+//! - kind 1: a fragment of a datagram: the datagram's number, a u64; the index of the fragment and their count, a u8
+//!   each; and the fragment's bytes.
+
+ghost use Rattle.std.specs.Prelude.{◌≡◌, ◌+◌, ◌++◌, ◌∷◌, [], IfSome, Some, drop, length};
+ghost use Rattle.crsm_base.specs.Reading.{u64_at};
+ghost use Rattle.crsm_base.specs.Spelling.{u64_bytes};
+ghost use Rattle.crsm_port_packets.specs.Format.{IsOfKind, entry_at, is_packed};
+
+use crsm_text_fields::take_u64;
+
+/// The first byte of a packet that is no plain datagram. No datagram begins with it.
+const PACKET_BYTE: u8 = 17;
+
+const BUNDLE: u8 = 0;
+
+const FRAGMENT: u8 = 1;
+
+/// The bytes before the datagrams of a bundle; alone they are a greeting.
+pub(crate) const BUNDLE_HEAD: [u8; 2] = [PACKET_BYTE, BUNDLE];
+
+/// Length of the field before each datagram of a bundle, in bytes.
+pub(crate) const LENGTH_BYTES: usize = 2;
+
+/// Length of the fields before a fragment's bytes: the byte 17, the kind, the number, the index and the count.
+pub(crate) const FRAGMENT_HEAD: usize = 12;
+
+/// Maximum length of a bundle or a fragment in bytes. Links of 1,280 bytes carry it with the headers of IP and UDP.
+pub(crate) const MOST_BYTES: usize = 1_232;
+
+/// Maximum number of bytes of a datagram in one fragment.
+pub(crate) const MOST_IN_FRAGMENT: usize = MOST_BYTES - FRAGMENT_HEAD;
+
+/// Maximum number of fragments of a datagram, whose length is at most 8,201 bytes.
+pub(crate) const MOST_FRAGMENTS: usize = 7;
+
+/// A fragment of a datagram.
+#[derive(Clone, Copy)]
+pub(crate) struct Fragment<'a> {
+    /// The number of the datagram among those from its sender.
+    pub(crate) number: u64,
+    /// The index of the fragment, from 0, and the number of fragments of the datagram.
+    pub(crate) index: u8,
+    pub(crate) count: u8,
+    pub(crate) bytes: &'a [u8],
+}
+
+/// A packet that is no plain datagram, by its first bytes.
+#[derive(Clone, Copy)]
+pub(crate) enum PacketKind<'a> {
+    /// The datagrams of a bundle, each after its length.
+    Bundle(&'a [u8]),
+    Fragment(Fragment<'a>),
+    /// Neither of these.
+    Other,
+}
+
+/// Returns whether a packet has the byte 17 and a kind; otherwise it is a datagram as it is.
+pub(crate) fn is_packed(packet: &[u8]) -> bool
+    ensures { result ≡ is_packed packet.now }
+{
+    match packet {
+        [first, ..] => *first == PACKET_BYTE,
+        [] => false,
+    }
+}
+
+/// Parses the first bytes of a packet that is no plain datagram.
+pub(crate) fn kind_of(packet: &[u8]) -> PacketKind<'_>
+    ensures { IsOfKind packet.now result }
+{
+    match packet {
+        [PACKET_BYTE, BUNDLE, entries @ ..] => PacketKind::Bundle(entries),
+        [PACKET_BYTE, FRAGMENT, rest @ ..] => match fragment_of(rest) {
+            Some(fragment) => PacketKind::Fragment(fragment),
+            None => PacketKind::Other,
+        },
+        _ => PacketKind::Other,
+    }
+}
+
+/// Parses a fragment after its kind. `None` if a field is missing, or if its index is not below its count.
+fn fragment_of(bytes: &[u8]) -> Option<Fragment<'_>>
+    ensures { IfSome result (λ f. u64_at bytes.now ≡ Some (f.number, f.index ∷ f.count ∷ f.bytes.now)) }
+{
+    match take_u64(bytes) {
+        Some((number, [index, count, bytes @ ..])) if index < count => Some(Fragment {
+            number,
+            index: *index,
+            count: *count,
+            bytes,
+        }),
+        _ => None,
+    }
+}
+
+/// Encodes the fields before a fragment's bytes.
+#[tactic(auto, unfolding(crsm_base::specs::Spelling::u64_bytes))]
+pub(crate) fn fragment_head(number: u64, index: u8, count: u8) -> [u8; FRAGMENT_HEAD]
+    ensures { result ≡ 17 ∷ 1 ∷ u64_bytes number ++ index ∷ count ∷ [] }
+{
+    let [a, b, c, d, e, f, g, h] = number.to_be_bytes();
+    [PACKET_BYTE, FRAGMENT, a, b, c, d, e, f, g, h, index, count]
+}
+
+/// Splits the entries of a bundle into the first datagram and the entries after it. `None` if there is no whole one.
+pub(crate) fn first_entry(entries: &[u8]) -> Option<(&[u8], &[u8])>
+    ensures first { IfSome result (λ e. entry_at entries.now ≡ Some (e.0.now, e.1.now)) }
+    ensures rest { IfSome result (λ e. e.1.now ≡ drop (2 + length e.0.now) entries.now) }
+    ensures len { IfSome result (λ e. 2 + length e.0.now + length e.1.now ≡ length entries.now) }
+{
+    match entries {
+        [high, low, rest @ ..] => {
+            let len = usize::from(*high) * 256 + usize::from(*low);
+            if len > rest.len() {
+                return None;
+            }
+            Some(rest.split_at(len))
+        }
+        _ => None,
+    }
+}

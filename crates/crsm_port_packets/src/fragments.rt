@@ -1,0 +1,147 @@
+//! The fragments that have arrived lately.
+
+ghost use Rattle.std.specs.Prelude.{◌≡◌, [], true, Ok, IfSome, IsTrue};
+ghost use Rattle.crsm_port_packets.specs.Carrying.{put_together};
+ghost use Rattle.crsm_port_packets.specs.Format.{fields_of};
+ghost use Rattle.crsm_port_packets.specs.Kept.{Forgets, GainsOnly, arrived, kept_in};
+
+use crate::format::{Fragment, MOST_FRAGMENTS};
+use crsm_base::NoMemory;
+use std::alloc::Global;
+
+/// Maximum number of fragments that are kept from one sender: those of four datagrams.
+const MOST_KEPT: usize = 4 * MOST_FRAGMENTS;
+
+/// A fragment, and the address that it came from.
+#[derive(Drop)]
+pub(crate) struct Piece {
+    pub(crate) from: u64,
+    pub(crate) number: u64,
+    pub(crate) index: u8,
+    pub(crate) count: u8,
+    pub(crate) bytes: Vec<u8>,
+}
+
+impl Piece {
+    /// Returns whether this is the fragment at an index of the datagram of another, from the same address.
+    fn is_at(&self, index: u8, from: u64, fragment: &Fragment<'_>) -> bool
+        ensures { IsTrue result → arrived self.now ≡ record { from = from; fragment = record (fields_of fragment.now) { index = index; bytes = self.now.bytes.items } } }
+    {
+        self.index == index
+            && self.number == fragment.number
+            && self.count == fragment.count
+            && self.from == from
+    }
+}
+
+/// The latest fragments of each sender, the oldest first. Where there are `MOST_KEPT` from a sender, a new one takes the
+/// place of the oldest of these.
+#[derive(Drop)]
+pub(crate) struct Fragments {
+    alloc: Global,
+    pieces: Vec<Piece>,
+}
+
+impl Fragments {
+    /// Returns a state without fragments.
+    pub(crate) fn new(alloc: Global) -> Fragments
+        ensures { result.pieces.items ≡ [] }
+    {
+        Fragments {
+            alloc,
+            pieces: Vec::new(alloc),
+        }
+    }
+
+    /// Keeps a fragment. If all fragments of its datagram have arrived, the datagram is written to `whole`, which is
+    /// empty, and `true` is returned. `NoMemory` if memory runs out; the datagram is then lost.
+    pub(crate) fn add(
+        &mut self,
+        from: u64,
+        fragment: &Fragment<'_>,
+        whole: &mut Vec<u8>,
+    ) -> Result<bool, NoMemory>
+        requires { whole.old.items ≡ [] }
+        ensures kept { GainsOnly (record { from = from; fragment = fields_of fragment.now }) self.old.pieces.items self.new.pieces.items }
+        ensures whole { result ≡ Ok true → put_together (kept_in self.new.pieces.items) from whole.new.items }
+    {
+        if usize::from(fragment.count) > MOST_FRAGMENTS {
+            return Ok(false);
+        }
+        let bytes = Vec::from_slice(self.alloc, fragment.bytes)?;
+        self.keep(Piece {
+            from,
+            number: fragment.number,
+            index: fragment.index,
+            count: fragment.count,
+            bytes,
+        })?;
+        self.put_together(from, fragment, whole)
+    }
+
+    /// Keeps a fragment. `NoMemory` if memory runs out.
+    fn keep(&mut self, piece: Piece) -> Result<(), NoMemory>
+        ensures { GainsOnly (arrived piece) self.old.pieces.items self.new.pieces.items }
+    {
+        self.make_room(piece.from);
+        self.pieces.push(piece)?;
+        Ok(())
+    }
+
+    /// Forgets the oldest fragment from a sender, if no more may be kept from it.
+    fn make_room(&mut self, from: u64)
+        ensures { Forgets self.old.pieces.items self.new.pieces.items }
+    {
+        match self.oldest_of_many(from) {
+            Some(oldest) if oldest < self.pieces.len() => {
+                self.pieces.remove(oldest);
+            }
+            _ => {}
+        }
+    }
+
+    /// Returns the index of the oldest fragment from a sender, if no more may be kept from it.
+    fn oldest_of_many(&self, from: u64) -> Option<usize> {
+        let mut oldest = None;
+        let mut count = 0_usize;
+        for (index, piece) in self.pieces.iter().enumerate() {
+            if piece.from == from {
+                oldest = oldest.or(Some(index));
+                count = count.saturating_add(1);
+            }
+        }
+        oldest.filter(|_| count >= MOST_KEPT)
+    }
+
+    /// Writes the bytes of all fragments of a datagram in order, and returns whether all are here, and at least one.
+    /// `NoMemory` if memory runs out.
+    fn put_together(
+        &self,
+        from: u64,
+        fragment: &Fragment<'_>,
+        whole: &mut Vec<u8>,
+    ) -> Result<bool, NoMemory>
+        requires { whole.old.items ≡ [] }
+        ensures { result ≡ Ok true → put_together (kept_in self.now.pieces.items) from whole.new.items }
+    {
+        for index in 0..fragment.count {
+            match self.piece(index, from, fragment) {
+                Some(bytes) => whole.extend_from_slice(bytes)?,
+                None => return Ok(false),
+            }
+        }
+        Ok(fragment.count > 0)
+    }
+
+    /// Returns the bytes of the fragment at an index of a datagram, or `None` if it has not arrived.
+    fn piece(&self, index: u8, from: u64, fragment: &Fragment<'_>) -> Option<&[u8]>
+        ensures { IfSome result (λ bytes. kept_in self.now.pieces.items from (record (fields_of fragment.now) { index = index; bytes = bytes.now })) }
+    {
+        for piece in &self.pieces {
+            if piece.is_at(index, from, fragment) {
+                return Some(piece.bytes.as_slice());
+            }
+        }
+        None
+    }
+}

@@ -1,0 +1,372 @@
+//! `PacketsPort`: packets of a size that networks carry whole.
+
+ghost use Rattle.std.specs.Prelude.{◌≡◌, List, [], false, take, IfOk, IfSome, length};
+ghost use Rattle.crsm_port.specs.Meaning.{IsWithin};
+ghost use Rattle.crsm_port.specs.Passing.{IsOf, NoMore, OneMore, Only, either};
+ghost use Rattle.crsm_port.specs.Sent.{packets_of};
+ghost use Rattle.crsm_port.specs.Unknown.{unknown};
+ghost use Rattle.crsm_port_packets.specs.Carrying.{carried, put_together};
+ghost use Rattle.crsm_port_packets.specs.Cutting.{AreApart, AreOfCuts, CutDatagram, cut_in, fragments_from};
+ghost use Rattle.crsm_port_packets.specs.Format.{is_packed};
+ghost use Rattle.crsm_port_packets.specs.Held.{Opens, fragments_with, unpacked};
+ghost use Rattle.crsm_port_packets.specs.Sent.{sent_with};
+
+use crate::bundle::send_waiting;
+use crate::cutting::send_fragments;
+use crate::format::{MOST_BYTES, is_packed};
+use crate::peer::Peer;
+use crate::received::Received;
+use crate::unpacking::hand_up;
+use crsm_base::{Failed, NoMemory};
+use crsm_clock::Clock;
+use crsm_port::{Port, Recv, SentPackets};
+use crsm_port_faults::raise;
+use std::alloc::Global;
+
+/// Maximum length of a datagram in bytes, with the mark of a cluster.
+const MOST_RECEIVED: usize = 8_201;
+
+/// Maximum number of datagrams that wait for others to their address.
+const MOST_WAITING: usize = 4_096;
+
+/// Maximum number of packets without a datagram that a receive takes.
+const MOST_EMPTY: usize = 64;
+
+/// A port over a port on which a packet is not longer than 1,232 bytes. Datagrams to one address wait for the next
+/// `flush` or receive, and go out as one packet; a longer datagram goes out as up to 7 fragments, and is handed up once
+/// all have arrived. All this is for peers alone, and for a peer from which such a packet came within three seconds;
+/// each peer is sent one every second. To any other address each datagram goes out as it is.
+///
+/// A datagram that waits is answered as sent. Only the port's counters are specified.
+#[derive(Drop)]
+pub struct PacketsPort<P, C> {
+    port: P,
+    clock: C,
+    // The clock's reading before the next sends, in microseconds.
+    now: u64,
+    peers: Vec<Peer>,
+    // The number of the next datagram in fragments, which no earlier process of the node has used.
+    number: u64,
+    // A received packet.
+    room: Vec<u8>,
+    // The datagrams that wait for others to their address.
+    waiting: SentPackets,
+    // A packet to be sent.
+    packet: Vec<u8>,
+    received: Received,
+    // Whether the next receive must not wait.
+    is_soon: bool,
+    faults: u64,
+    losses: u64,
+    empties: u64,
+}
+
+impl<P: Drop, C: Drop> PacketsPort<P, C> {
+    /// Returns a port over `inner` that reads `clock`, in microseconds, for a node whose peers have these addresses
+    /// (IPv4 x 65,536 + port). `NoMemory` if memory runs out.
+    pub fn new(
+        alloc: Global,
+        inner: P,
+        clock: C,
+        peers: &[u64],
+    ) -> Result<PacketsPort<P, C>, NoMemory> {
+        let mut known = Vec::with_capacity(alloc, peers.len())?;
+        for address in peers {
+            known.push(Peer::new(*address))?;
+        }
+        Ok(PacketsPort {
+            port: inner,
+            clock,
+            now: 0,
+            peers: known,
+            number: 0,
+            room: Vec::from_elem(alloc, 0u8, MOST_RECEIVED)?,
+            waiting: SentPackets::new(alloc),
+            packet: Vec::with_capacity(alloc, MOST_BYTES)?,
+            received: Received::new(alloc)?,
+            is_soon: false,
+            faults: 0,
+            losses: 0,
+            empties: 0,
+        })
+    }
+}
+
+impl<P: Port, C> PacketsPort<P, C> {
+    /// States that where each fragment that came is of a datagram that was cut, and no two of these came from one
+    /// address under one number, nothing but these is put together. It runs no code.
+    pub fn puts_together_what_was_cut(&self)
+        ensures { (cuts : List CutDatagram) → AreApart cuts → AreOfCuts cuts (fragments_with (P.gives self.entry.now.port) self.entry.now.received)
+            → NoMore (cut_in cuts) (put_together (fragments_with (P.gives self.entry.now.port) self.entry.now.received)) }
+    {}
+}
+
+/// Returns the packet of this length in the buffer.
+fn front(room: &[u8], len: usize) -> Option<&[u8]>
+    ensures { IfSome result (λ packet. packet.now ≡ take len room.now) }
+{
+    room.get(..len)
+}
+
+/// Returns the peer with this address, or `None`.
+fn peer_at(peers: &mut Vec<Peer>, address: u64) -> Option<&mut Peer> {
+    for peer in peers {
+        if peer.address == address {
+            return Some(peer);
+        }
+    }
+    None
+}
+
+/// Sends the datagrams that wait for peers, in packets.
+fn send_to_each<P: Port>(
+    peers: &mut [Peer],
+    waiting: &SentPackets,
+    now: u64,
+    packet: &mut Vec<u8>,
+    port: &mut P,
+)
+    ensures gives { NoMore (P.gives port.old) (P.gives port.new) }
+    ensures sends { NoMore (sent_with (P.may_send port.old) (packets_of waiting.now)) (carried (P.may_send port.new)) }
+{
+    for peer in peers {
+        if send_waiting(waiting, peer.address, packet, port) {
+            peer.note_greeted(now);
+        }
+    }
+}
+
+/// Sends a greeting to each peer to which no packet with the byte 17 went for a second.
+fn greet_each<P: Port>(peers: &mut [Peer], now: u64, port: &mut P)
+    ensures gives { NoMore (P.gives port.old) (P.gives port.new) }
+    ensures sends { NoMore (carried (P.may_send port.old)) (carried (P.may_send port.new)) }
+{
+    for peer in peers {
+        peer.greet(now, port);
+    }
+}
+
+impl<P: Port, C: Clock> PacketsPort<P, C> {
+    /// Sends the datagrams that wait.
+    fn let_go(&mut self)
+        ensures gives { NoMore (P.gives self.old.port) (P.gives self.new.port) }
+        ensures sends { NoMore (sent_with (P.may_send self.old.port) (packets_of self.old.waiting)) (sent_with (P.may_send self.new.port) (packets_of self.new.waiting)) }
+        ensures received { self.new.received ≡ self.old.received }
+        ensures same { self.new ≡ record self.old { port = self.new.port; peers = self.new.peers; waiting = self.new.waiting; packet = self.new.packet } }
+        ensures none { packets_of self.new.waiting ≡ [] }
+    {
+        if self.waiting.len() == 0 {
+            return;
+        }
+        let peers = self.peers.as_mut_slice();
+        send_to_each(
+            peers,
+            &self.waiting,
+            self.now,
+            &mut self.packet,
+            &mut self.port,
+        );
+        self.waiting.clear();
+    }
+
+    /// Returns the next datagram, or `Nothing`.
+    fn next(&mut self, buf: &mut [u8]) -> Result<Recv, Failed>
+        ensures within { IfOk result (IsWithin (length buf.old)) }
+        ensures given { IfOk result (IsOf (unpacked (P.gives self.old.port) self.old.received) buf.new) }
+        ensures rest { NoMore (unpacked (P.gives self.old.port) self.old.received) (unpacked (P.gives self.new.port) self.new.received) }
+        ensures sends { NoMore (P.may_send self.old.port) (P.may_send self.new.port) }
+        ensures waiting { self.new.waiting ≡ self.old.waiting }
+        ensures same { self.new ≡ record self.old { port = self.new.port; peers = self.new.peers; room = self.new.room; received = self.new.received } }
+    {
+        for _ in 0..MOST_EMPTY {
+            if let Some(got) = self.next_or_none(buf)? {
+                return Ok(got);
+            }
+        }
+        Ok(Recv::Nothing)
+    }
+
+    /// Returns the next datagram of the bundle that is being taken apart, or else of the next packet if it is one, or
+    /// `Nothing`.
+    fn next_or_none(&mut self, buf: &mut [u8]) -> Result<Option<Recv>, Failed>
+        ensures within { IfOk result (λ got. IfSome got (IsWithin (length buf.old))) }
+        ensures given { IfOk result (λ got. IfSome got (IsOf (unpacked (P.gives self.old.port) self.old.received) buf.new)) }
+        ensures rest { NoMore (unpacked (P.gives self.old.port) self.old.received) (unpacked (P.gives self.new.port) self.new.received) }
+        ensures sends { NoMore (P.may_send self.old.port) (P.may_send self.new.port) }
+        ensures same { self.new ≡ record self.old { port = self.new.port; peers = self.new.peers; room = self.new.room; received = self.new.received } }
+    {
+        match self.received.next(buf) {
+            Some(got) => Ok(Some(got)),
+            None => self.take_packet(buf),
+        }
+    }
+
+    /// Receives a packet, and returns its datagram if it is one, or `Nothing` if none has arrived.
+    fn take_packet(&mut self, buf: &mut [u8]) -> Result<Option<Recv>, Failed>
+        ensures within { IfOk result (λ got. IfSome got (IsWithin (length buf.old))) }
+        ensures given { IfOk result (λ got. IfSome got (IsOf (unpacked (P.gives self.old.port) self.old.received) buf.new)) }
+        ensures rest { NoMore (unpacked (P.gives self.old.port) self.old.received) (unpacked (P.gives self.new.port) self.new.received) }
+        ensures sends { NoMore (P.may_send self.old.port) (P.may_send self.new.port) }
+        ensures same { self.new ≡ record self.old { port = self.new.port; peers = self.new.peers; room = self.new.room; received = self.new.received } }
+    {
+        match self.recv_below()? {
+            Recv::Nothing => Ok(Some(Recv::Nothing)),
+            Recv::Datagram { from, len } => Ok(self.open(from, len, buf)),
+        }
+    }
+
+    /// Receives a packet into `room`.
+    fn recv_below(&mut self) -> Result<Recv, Failed>
+        ensures given { IfOk result (IsOf (P.gives self.old.port) self.new.room.items) }
+        ensures rest { NoMore (P.gives self.old.port) (P.gives self.new.port) }
+        ensures sends { NoMore (P.may_send self.old.port) (P.may_send self.new.port) }
+        ensures received { self.new.received ≡ self.old.received }
+        ensures same { self.new ≡ record self.old { port = self.new.port; room = self.new.room } }
+    {
+        self.prepare();
+        self.port.recv(&mut self.room)
+    }
+
+    /// Asks that the port below does not wait, if this one must not.
+    fn prepare(&mut self)
+        ensures rest { NoMore (P.gives self.old.port) (P.gives self.new.port) }
+        ensures sends { NoMore (P.may_send self.old.port) (P.may_send self.new.port) }
+        ensures same { self.new ≡ record self.old { port = self.new.port } }
+    {
+        if self.is_soon {
+            self.port.poll_soon();
+        }
+    }
+
+    /// Opens a received packet, and returns its datagram if it is one. A bundle is taken apart by the next receives. A
+    /// packet of several datagrams or of a part of one is taken from peers alone.
+    fn open(&mut self, from: u64, len: usize, buf: &mut [u8]) -> Option<Recv>
+        ensures within { IfSome result (IsWithin (length buf.old)) }
+        ensures given { IfSome result (IsOf (unpacked (Only from (take len self.old.room.items)) self.old.received) buf.new) }
+        ensures opens { Opens from (take len self.old.room.items) self.old.received self.new.received }
+        ensures port { self.new.port ≡ self.old.port }
+        ensures same { self.new ≡ record self.old { peers = self.new.peers; received = self.new.received } }
+    {
+        let packet = front(self.room.as_slice(), len)?;
+        if !is_packed(packet) {
+            return Some(hand_up(from, packet, buf));
+        }
+        let peer = peer_at(&mut self.peers, from)?;
+        peer.note_heard(self.now);
+        self.received.take(from, packet, buf)
+    }
+
+    /// Returns whether the receiver reads packets with the byte 17.
+    fn speaks(&self, to: u64) -> bool {
+        self.peers
+            .iter()
+            .any(|peer| peer.address == to && peer.speaks(self.now))
+    }
+
+    /// Sends a datagram, or lets it wait for others to its address. No datagram begins with the byte 17.
+    fn pass_on(&mut self, to: u64, bytes: &[u8]) -> Result<(), Failed>
+        ensures gives { NoMore (P.gives self.old.port) (P.gives self.new.port) }
+        ensures sends { OneMore to bytes.now (sent_with (P.may_send self.old.port) (packets_of self.old.waiting)) (sent_with (P.may_send self.new.port) (packets_of self.new.waiting)) }
+        ensures received { self.new.received ≡ self.old.received }
+        ensures same { self.new ≡ record self.old { port = self.new.port; peers = self.new.peers; number = self.new.number; waiting = self.new.waiting; packet = self.new.packet } }
+    {
+        if is_packed(bytes) {
+            return Err(Failed);
+        }
+        if !self.speaks(to) {
+            return self.port.send(to, bytes);
+        }
+        if bytes.len() > MOST_BYTES {
+            return self.send_fragments(to, bytes);
+        }
+        self.keep(to, bytes)
+    }
+
+    /// Lets a datagram wait for others to its address. If memory runs out it is sent at once.
+    fn keep(&mut self, to: u64, bytes: &[u8]) -> Result<(), Failed>
+        requires { is_packed bytes.now ≡ false }
+        ensures gives { NoMore (P.gives self.old.port) (P.gives self.new.port) }
+        ensures sends { OneMore to bytes.now (sent_with (P.may_send self.old.port) (packets_of self.old.waiting)) (sent_with (P.may_send self.new.port) (packets_of self.new.waiting)) }
+        ensures same { self.new ≡ record self.old { port = self.new.port; peers = self.new.peers; waiting = self.new.waiting; packet = self.new.packet } }
+    {
+        self.make_room();
+        match self.waiting.add(to, bytes) {
+            Ok(()) => Ok(()),
+            Err(NoMemory) => self.port.send(to, bytes),
+        }
+    }
+
+    /// Sends the datagrams that wait, if no more may.
+    fn make_room(&mut self)
+        ensures gives { NoMore (P.gives self.old.port) (P.gives self.new.port) }
+        ensures sends { NoMore (sent_with (P.may_send self.old.port) (packets_of self.old.waiting)) (sent_with (P.may_send self.new.port) (packets_of self.new.waiting)) }
+        ensures same { self.new ≡ record self.old { port = self.new.port; peers = self.new.peers; waiting = self.new.waiting; packet = self.new.packet } }
+    {
+        if self.waiting.len() >= MOST_WAITING {
+            self.let_go();
+        }
+    }
+
+    /// Sends a datagram as fragments, under a number that no other has. `Failed` if one of them was lost, memory runs
+    /// out, or there are no more numbers.
+    fn send_fragments(&mut self, to: u64, bytes: &[u8]) -> Result<(), Failed>
+        ensures gives { NoMore (P.gives self.old.port) (P.gives self.new.port) }
+        ensures sends { NoMore (either (P.may_send self.old.port) (fragments_from to bytes.now self.old.number self.new.number)) (P.may_send self.new.port) }
+        ensures carries { NoMore (carried (P.may_send self.old.port)) (carried (P.may_send self.new.port)) }
+        ensures same { self.new ≡ record self.old { port = self.new.port; number = self.new.number; packet = self.new.packet } }
+    {
+        let number = self.number.max(self.now);
+        self.number = number.checked_add(1).ok_or(Failed)?;
+        send_fragments(to, bytes, number, &mut self.packet, &mut self.port)
+    }
+}
+
+impl<P: Port, C: Clock> Port for PacketsPort<P, C> {
+    ghost meaning = { λ p. unknown p.faults p.losses p.empties };
+
+    ghost gives = { λ p. unpacked (P.gives p.port) p.received };
+
+    ghost may_send = { λ p. sent_with (P.may_send p.port) (packets_of p.waiting) };
+
+    fn recv(&mut self, buf: &mut [u8]) -> Result<Recv, Failed> {
+        self.let_go();
+        let got = self.next(buf);
+        self.is_soon = false;
+        match got {
+            Ok(Recv::Datagram { from, len }) => Ok(Recv::Datagram { from, len }),
+            Ok(Recv::Nothing) => {
+                raise(&mut self.empties);
+                Ok(Recv::Nothing)
+            }
+            Err(Failed) => {
+                raise(&mut self.faults);
+                Err(Failed)
+            }
+        }
+    }
+
+    fn send(&mut self, to: u64, bytes: &[u8]) -> Result<(), Failed> {
+        match self.pass_on(to, bytes) {
+            Ok(()) => Ok(()),
+            Err(Failed) => {
+                raise(&mut self.losses);
+                Err(Failed)
+            }
+        }
+    }
+
+    fn reserve(&mut self, sends: u64, bytes: u64) -> Result<(), NoMemory> {
+        self.now = self.clock.now();
+        self.port.reserve(sends, bytes)
+    }
+
+    fn poll_soon(&mut self) {
+        self.is_soon = true;
+    }
+
+    fn flush(&mut self) {
+        self.let_go();
+        greet_each(self.peers.as_mut_slice(), self.now, &mut self.port);
+        self.port.flush();
+    }
+}

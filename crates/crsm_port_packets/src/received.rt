@@ -1,0 +1,69 @@
+//! What was received and is not handed up yet.
+
+ghost use Rattle.std.specs.Prelude.{◌≡◌, IfSome, length};
+ghost use Rattle.crsm_port.specs.Meaning.{IsWithin};
+ghost use Rattle.crsm_port.specs.Passing.{Cut, IsOf, NoMore, Only};
+ghost use Rattle.crsm_port_packets.specs.Carrying.{put_together};
+ghost use Rattle.crsm_port_packets.specs.Held.{Opens, fragments_with};
+ghost use Rattle.crsm_port_packets.specs.Waiting.{waiting_in};
+
+use crate::format::{MOST_FRAGMENTS, MOST_IN_FRAGMENT, PacketKind, kind_of};
+use crate::fragments::Fragments;
+use crate::unpacking::{Unpacking, hand_up};
+use crsm_base::NoMemory;
+use crsm_port::Recv;
+use std::alloc::Global;
+
+/// The bundle that is being taken apart, and fragments whose datagrams are not whole.
+#[derive(Drop)]
+pub(crate) struct Received {
+    unpacking: Unpacking,
+    fragments: Fragments,
+    // A datagram that was put together.
+    whole: Vec<u8>,
+}
+
+impl Received {
+    /// Returns a state in which nothing was received. `NoMemory` if memory runs out.
+    pub(crate) fn new(alloc: Global) -> Result<Received, NoMemory> {
+        Ok(Received {
+            unpacking: Unpacking::new(alloc),
+            fragments: Fragments::new(alloc),
+            whole: Vec::with_capacity(alloc, MOST_IN_FRAGMENT * MOST_FRAGMENTS)?,
+        })
+    }
+
+    /// Returns the next datagram of the bundle that is being taken apart, cut to the buffer, or `None`.
+    pub(crate) fn next(&mut self, buf: &mut [u8]) -> Option<Recv>
+        ensures within { IfSome result (IsWithin (length buf.old)) }
+        ensures waited { IfSome result (IsOf (Cut (waiting_in self.old.unpacking)) buf.new) }
+        ensures rest { NoMore (waiting_in self.old.unpacking) (waiting_in self.new.unpacking) }
+        ensures same { self.new.fragments ≡ self.old.fragments }
+    {
+        self.unpacking.take(buf)
+    }
+
+    /// Takes a packet that is no plain datagram, and returns its datagram, cut to the buffer, if it was the last
+    /// fragment of one. The datagrams of a bundle are returned by `next`. If memory runs out the packet is lost, as any
+    /// may be.
+    pub(crate) fn take(&mut self, from: u64, packet: &[u8], buf: &mut [u8]) -> Option<Recv>
+        ensures within { IfSome result (IsWithin (length buf.old)) }
+        ensures whole { IfSome result (IsOf (Cut (put_together (fragments_with (Only from packet.now) self.old))) buf.new) }
+        ensures opens { Opens from packet.now self.old self.new }
+    {
+        match kind_of(packet) {
+            PacketKind::Bundle(entries) => {
+                let _ = self.unpacking.begin(from, entries);
+                None
+            }
+            PacketKind::Fragment(fragment) => {
+                self.whole.clear();
+                match self.fragments.add(from, &fragment, &mut self.whole) {
+                    Ok(true) => Some(hand_up(from, self.whole.as_slice(), buf)),
+                    _ => None,
+                }
+            }
+            PacketKind::Other => None,
+        }
+    }
+}
