@@ -4,7 +4,7 @@ use Rattle.std.proofs.lemmas.List.{append-nil}
 use Rattle.std.specs.Prelude.{Option, Result, Ok, Err, ◌≢◌}
 use Rattle.std.specs.List.{AllByRecursion}
 use Rattle.crsm_clock.specs.Readings.{Readings}
-use Rattle.crsm_disk.specs.Meaning.{LeavesOnly}
+use Rattle.crsm_disk.specs.Meaning.{LeavesOnly, Only}
 use Rattle.crsm_port_faults.specs.Counts.{Rose}
 use Rattle.crsm_io.specs.Streams.{Puts, PutsPrefix}
 use Rattle.crsm_spec_process.specs.Groups.{AreGroups, IsGroup}
@@ -14,17 +14,17 @@ use Rattle.crsm_log.specs.Log.{Goes}
 use Rattle.crsm_spec.specs.Node.{Turn, outputs_from}
 use Rattle.crsm_spec.specs.Replica.{Replica}
 use Rattle.crsm_replica_detector.specs.Watching.{Watch}
-use Rattle.crsm_replica_detector.specs.Wished.{replica_after}
+use Rattle.crsm_spec_process.specs.Turns.{replica_after}
 use Rattle.crsm_replica_io.specs.Outgoing.{packets_for}
 use Rattle.crsm_shell.specs.Flushing.{Adds, IsFull, IsLeft, SendsPackets}
 use Rattle.crsm_shell.specs.Shell.{group_body, sends_of}
 use Rattle.crsm_node.specs.Devices.{Node}
-use Rattle.crsm_node.specs.Kept.{IsLeftOf, bodies_in_log, body_in_log}
+use Rattle.crsm_node.specs.Kept.{HasAll, HasLogOf, IsLeftOf, bodies_in_log, body_in_log}
 use Rattle.crsm_node.specs.Sent.{AreAddressed, HaveFates}
 use Rattle.crsm_node.specs.Serving.{Carries, Keeps, MayGoOn, Serves, StopsAt, Takes, maybe_kept, turns_by_group, turns_text, with_lost}
 use Rattle.crsm_node.specs.declared.errors.NodeError.{NodeError}
 use Rattle.crsm_node.specs.declared.errors.NodeError.TheVariants.{PortFault, DiskFault, LogFull, WriteFault, NoMemory}
-use Rattle.crsm_node.proofs.Disks.{left_more}
+use Rattle.crsm_node.proofs.Disks.{left_more, synced_by_flush, synced_now}
 use Rattle.crsm_node.proofs.Groups.{AreOpen, groups_more, IsShut, open_group, shut_groups}
 use Rattle.crsm_node.proofs.Fates.{addressed_more, fates_for, have_fates_more}
 use Rattle.crsm_node.proofs.SoFar.{OnDisk, carries_group, disk_more, goes_then}
@@ -61,6 +61,9 @@ group_if (t ∷ ts) open_ some = open_group t ts open_
 
 module _ (r : Replica) (w : Watch) (most : ℕ) (groups : List Group) (ts : List (Turn × ℕ)) (start now : Node) (s : SoFar r w groups ts start now)
     (written : Puts start.sheet now.sheet (turns_text (kept_turns groups))) (few : length (kept_turns groups ++ ts) ≤ most) (are : AreGroups (with_lost (turns_by_group groups) ts)) where
+  synced : IsTrue start.disk.honest → (c : List ℕ) → now.disk.may_leave c → HasAll start.disk.seen (bodies_in_log r (turns_by_group groups)) c
+  synced honest = synced_now start.disk.seen (bodies_in_log r (turns_by_group groups)) now.disk.seen now.disk.may_leave (s.disk.has honest) (s.disk.durable honest)
+
   -- memory ran out
   pub ends_without_memory : Serves r w most start now (Err NoMemory)
   ends_without_memory = record {
@@ -73,7 +76,16 @@ module _ (r : Replica) (w : Watch) (most : ℕ) (groups : List Group) (ts : List
     takes = s.takes;
     carries = s.carries;
     goes = s.disk.goes;
-    keeps = λ honest. record { file = now.disk.seen; put = s.disk.put honest; bodies = s.disk.has honest; is = λ _. refl; stops = tt; any_moment = s.disk.any_moment honest };
+    keeps = λ honest. record {
+      file = now.disk.seen;
+      put = s.disk.put honest;
+      bodies = s.disk.has honest;
+      is = λ _. refl;
+      log = s.disk.log honest;
+      stops = tt;
+      synced = synced honest;
+      any_moment = s.disk.any_moment honest;
+    };
     writes = written;
     ends = tt;
     peers = s.peers;
@@ -91,7 +103,16 @@ module _ (r : Replica) (w : Watch) (most : ℕ) (groups : List Group) (ts : List
     takes = s.takes;
     carries = s.carries;
     goes = s.disk.goes;
-    keeps = λ honest. record { file = now.disk.seen; put = s.disk.put honest; bodies = s.disk.has honest; is = λ _. refl; stops = full honest; any_moment = s.disk.any_moment honest };
+    keeps = λ honest. record {
+      file = now.disk.seen;
+      put = s.disk.put honest;
+      bodies = s.disk.has honest;
+      is = λ _. refl;
+      log = s.disk.log honest;
+      stops = full honest;
+      synced = synced honest;
+      any_moment = s.disk.any_moment honest;
+    };
     writes = written;
     ends = tt;
     peers = s.peers;
@@ -125,7 +146,11 @@ ends_at_disk r w most groups ts start mid now s written few are some clock carri
         put = s.disk.put honest;
         bodies = s.disk.has honest;
         is = λ other. absurd (other refl);
+        log = s.disk.log honest;
         stops = fits (trusts honest);
+        synced = λ c is.
+            let flushed = left (trusts honest) in
+            synced_by_flush start.disk.seen bodies body mid.disk.seen c (s.disk.has honest) (flushed.each c (now.disk.counts_now mid.disk.moment c flushed.later is));
         any_moment = subst (λ (xs : List (List ℕ)). LeavesOnly start.disk now.disk (IsLeftOf start.disk.seen xs)) (sym all)
             (left_more start.disk mid.disk now.disk bodies body (s.disk.has honest) (s.disk.any_moment honest) (left (trusts honest)));
       };
@@ -149,7 +174,9 @@ module _ (r : Replica) (w : Watch) (most : ℕ) (groups : List Group) (start now
     put = s.disk.put honest;
     bodies = s.disk.has honest;
     is = λ _. refl;
+    log = s.disk.log honest;
     stops = stops;
+    synced = synced_now start.disk.seen (bodies_in_log r (turns_by_group groups)) now.disk.seen now.disk.may_leave (s.disk.has honest) (s.disk.durable honest);
     any_moment = subst (λ (gs : List (List (Turn × ℕ))). LeavesOnly start.disk now.disk (IsLeftOf start.disk.seen (bodies_in_log r gs))) (sym maybe) (s.disk.any_moment honest);
   }
 
@@ -213,6 +240,8 @@ pub record KeepsTurns (addresses : List ℕ) (r : Replica) (ts : List (Turn × �
   pub adds : IsTrue mid.disk.honest → Adds (group_body (outputs_from r ts)) mid.disk.seen now.disk.seen
   pub left : IsTrue mid.disk.honest → LeavesOnly mid.disk now.disk (IsLeft (bodies_of mid.disk.seen) (group_body (outputs_from r ts)))
   pub fits : IsTrue mid.disk.honest → IsFull mid.disk.seen (group_body (outputs_from r ts)) → ⊥
+  pub log : IsTrue now.disk.honest → HasLogOf (replica_after r ts) now.disk.seen
+  pub durable : IsTrue now.disk.honest → Only now.disk.seen now.disk.may_leave
   pub clock : now.clock ≡ mid.clock
   pub peers : now.peers ≡ mid.peers
 
@@ -227,14 +256,14 @@ group_kept r w groups ts start mid now s k =
     let all : List Group = groups ++ g ∷ [] in
     let same : kept_turns groups ++ ts ≡ kept_turns all ++ [] = sym (kept_more groups g) ∙ sym (append-nil (kept_turns all)) in
     let carried : Carries start.peers r w (kept_turns groups ++ ts) all start.port now.port =
-    carries_group start.peers r w (kept_turns groups ++ ts) groups ts start.port mid.port now.port s.fates out k.sent.framing k.sent.borrowed_as k.sent.empties k.sent.faults f s.carries in (
+    carries_group start.peers r w (kept_turns groups ++ ts) groups ts start.port mid.port now.port s.fates out k.sent.framing k.sent.borrowed_as k.sent.empties k.sent.too_long k.sent.faults f s.carries in (
       f.fates,
       record {
         takes = subst (λ (us : List (Turn × ℕ)). Takes r w us start.clock now.clock) same (subst (λ (c : Option Readings). Takes r w (kept_turns groups ++ ts) start.clock c) (sym k.clock) s.takes);
         carries = subst (λ (us : List (Turn × ℕ)). Carries start.peers r w us all start.port now.port) same carried;
         fates = have_fates_more r groups g s.fates f.each;
         addressed = addressed_more start.peers r groups s.fates ts out.missing out.out f s.addressed;
-        disk = disk_more r groups g start.disk mid.disk now.disk s.disk k.goes k.adds k.left k.fits;
+        disk = disk_more r groups g start.disk mid.disk now.disk s.disk k.goes k.adds k.left k.fits k.log k.durable;
         peers = k.peers ∙ s.peers;
       },
     )

@@ -10,11 +10,11 @@ use Rattle.crsm_spec.specs.Draft.{Draft}
 use Rattle.crsm_spec.specs.Node.{Turn, outputs_from}
 use Rattle.crsm_spec.specs.Replica.{Replica}
 use Rattle.crsm_spec_process.specs.Lives.{Group, kept_turns}
-use Rattle.crsm_replica_detector.specs.Wished.{replica_after}
+use Rattle.crsm_spec_process.specs.Turns.{gone, not_gone, replica_after}
 use Rattle.crsm_port.specs.Meaning.{Packet}
 use Rattle.crsm_shell.specs.Shell.{sends_in, sends_of}
 use Rattle.crsm_replica_io.specs.Outgoing.{Lacks, address_of, packet_for, packets_for, sent_packets}
-use Rattle.crsm_node.specs.Sent.{AreAddressed, HasAddress, HaveFates, fates_of, gone, handed_out, not_gone, packets_gone, packets_missing}
+use Rattle.crsm_node.specs.Sent.{AreAddressed, HasAddress, HaveFates, fates_of, handed_out, packets_gone, packets_missing}
 use Rattle.crsm_node.proofs.Groups.{all_append}
 use Rattle.crsm_node.proofs.Turns.{kept_more, outputs_append, replica_append}
 

@@ -16,28 +16,30 @@ use Rattle.crsm_clock.specs.Readings.{Readings}
 use Rattle.crsm_port.specs.Meaning.{Meaning as PortMeaning}
 use Rattle.crsm_log.specs.Log.{Goes}
 use Rattle.crsm_replica_detector.specs.Watching.{Watch, unwatched}
-use Rattle.crsm_replica_detector.specs.Wished.{AreWished, empty_receives, replica_after}
+use Rattle.crsm_spec_process.specs.Turns.{gone, not_gone, replica_after}
+use Rattle.crsm_replica_detector.specs.Wished.{AreWished, empty_receives}
 use Rattle.crsm_replica_io.specs.Outgoing.{packets_for}
 use Rattle.crsm_spec.specs.Log.{Log}
 use Rattle.crsm_spec.specs.Node.{Turn, outputs_from}
 use Rattle.crsm_spec.specs.Replica.{Replica}
 use Rattle.crsm_shell.specs.Booting.{IsLeftByBoot, boot_body}
 use Rattle.crsm_shell.specs.Shell.{HasLog, sends_of}
-use Rattle.crsm_node.specs.Kept.{HasBehind, IsLeftOf, PutInTurn, bodies_in_log}
+use Rattle.crsm_node.specs.Kept.{HasBehind, HasLogOf, IsLeftOf, PutInTurn, bodies_in_log}
 use Rattle.crsm_node.specs.Received.{GivesAll, Passes, datagrams_in}
 use Rattle.crsm_node.specs.Devices.{Node}
 use Rattle.crsm_node.specs.Order.{peers_in}
 use Rattle.crsm_node.specs.Running.{Devices, EndsLife, IsLeftAtStart, IsLeftInLife, KeepsLife, RunsLife, WritesLife, booted, end_of, opening_text, unlent_disk, unlent_port}
-use Rattle.crsm_node.specs.Sent.{AreAddressed, HaveFates, fates_of, gone, handed_out, not_gone, packets_gone, packets_missing, steps_by_group}
+use Rattle.crsm_node.specs.Sent.{AreAddressed, HaveFates, fates_of, handed_out, packets_gone, packets_missing, steps_by_group}
 use Rattle.crsm_node.specs.Serving.{Carries, Ends, Keeps, StopsAt, Takes, Writes, maybe_kept, turns_by_group, turns_text, with_lost}
 use Rattle.crsm_node.specs.declared.errors.NodeEnd.{NodeEnd}
 use Rattle.crsm_node.specs.declared.errors.NodeError.{NodeError}
 use Rattle.crsm_node.specs.declared.errors.NodeError.TheVariants as errors
 use Rattle.crsm_node.specs.declared.order.NodeOrder.{NodeOrder}
-use Rattle.crsm_node.proofs.Disks.{not_begun, runs_on}
+use Rattle.crsm_node.proofs.Disks.{not_begun, runs_on, synced_now}
 use Rattle.crsm_node.proofs.Ports.{both_same, passes_none, raised_none}
 use Rattle.crsm_node.proofs.SoFar.{puts_then}
-use Rattle.crsm_node.proofs.Starts.{start_run, unlent_goes, unlent_run}
+use Rattle.crsm_node.proofs.Starts.{boot_mine, boot_of, start_run, unlent_goes, unlent_run}
+use Rattle.crsm_node.proofs.Turns.{same_replica}
 
 -- ---- the sheet
 
@@ -111,6 +113,13 @@ module _ (order : NodeOrder) (life : Life) (m n o p : Meaning) (result : Result 
   in_turns : (file : List ℕ) → IsLeftOf o.seen ours file → IsLeftInLife order life m result file
   in_turns file h = inr (record { prefix = boot ∷ h.prefix; of = (h.of.0, ap (λ (xs : List (List ℕ)). boot ∷ xs) h.of.1); has = behind h.prefix file h.has })
 
+  logged : HasLog order.me order.n keeps.file (replica_after (booted order life.found) (kept_turns life.groups)).log
+  logged =
+      let q = replica_after (booted order life.found) (kept_turns life.groups) in
+      let same = same_replica (booted order life.found) (kept_turns life.groups) in
+      subst (λ (k : ℕ). HasLog k order.n keeps.file q.log) (same.0 ∙ boot_mine order.me order.n life.found)
+      (subst (λ (k : ℕ). HasLog q.me k keeps.file q.log) (same.1 ∙ boot_of order.me order.n life.found) keeps.log)
+
   pub life_keeps : KeepsLife order life (unlent_disk m) (unlent_disk p) result
   life_keeps = record {
     begun = o.seen;
@@ -119,7 +128,9 @@ module _ (order : NodeOrder) (life : Life) (m n o p : Meaning) (result : Result 
     put = keeps.put;
     bodies = behind (bodies_in_log (booted order life.found) (turns_by_group life.groups)) keeps.file keeps.bodies;
     is = keeps.is;
+    log = logged;
     stops = keeps.stops;
+    synced = λ c is. let h = keeps.synced c is in (h.0, behind (bodies_in_log (booted order life.found) (turns_by_group life.groups) ++ h.0) c h.1);
     any_moment = unlent_run m p (IsLeftInLife order life (unlent_disk m) result)
         (runs_on m o p (IsLeftAtStart order m) (IsLeftOf o.seen ours) (IsLeftInLife order life (unlent_disk m) result) (start_run order m n o claimed first second) keeps.any_moment at_start in_turns);
   }
@@ -128,7 +139,7 @@ module _ (order : NodeOrder) (life : Life) (m n o p : Meaning) (result : Result 
 
 -- what was sent and received, whoever lends the port
 carries_unlent : (peers : List ℕ) (r : Replica) (w : Watch) (ts : List (Turn × ℕ)) (groups : List Group) (a b : PortMeaning) → Carries peers r w ts groups a b → Carries peers r w ts groups (unlent_port a) (unlent_port b)
-carries_unlent peers r w ts groups a b h = record { traffic = h.traffic; empties = h.empties; losses = h.losses; faults = h.faults; framing = h.framing; borrowed_as = refl }
+carries_unlent peers r w ts groups a b h = record { traffic = h.traffic; empties = h.empties; losses = h.losses; too_long = h.too_long; faults = h.faults; framing = h.framing; borrowed_as = refl }
 
 -- what a life did to the devices, but for its sheet and its end
 pub record Lived (order : NodeOrder) (found_log : Log) (groups : List Group) (lost : List (Turn × ℕ)) (before after : Option Readings) (a b : PortMeaning) (o p : Meaning) (result : Result (Unit {0}) NodeError) : Type 0 where
@@ -194,14 +205,15 @@ runs_life order log groups lost m n o p a b before after had has faults more res
 
 -- no turn is taken
 pub lived_still : (order : NodeOrder) (log : Log) (before after : Option Readings) (a b : PortMeaning) (o : Meaning) (result : Result (Unit {0}) NodeError) → b ≡ a → after ≡ before →
-    ((r : Replica) → StopsAt r [] o.seen result) → maybe_kept [] [] result ≡ [] → (IsTrue o.honest → HasBehind o.seen [] o.seen) → (IsTrue o.honest → Only o.seen o.may_leave) → Lived order log [] [] before after a b o o result
-unfolding kept_turns AreWished GivesAll datagrams_in packets_gone packets_missing handed_out fates_of gone not_gone sends_of outputs_from packets_for empty_receives HaveFates bodies_in_log steps_by_group PutInTurn
-lived_still order log before after a b o result port clock stops maybe has only =
+    ((r : Replica) → StopsAt r [] o.seen result) → maybe_kept [] [] result ≡ [] → (IsTrue o.honest → HasBehind o.seen [] o.seen) → (IsTrue o.honest → Only o.seen o.may_leave) → (IsTrue o.honest → HasLogOf (booted order log) o.seen) → Lived order log [] [] before after a b o o result
+unfolding kept_turns AreWished GivesAll datagrams_in packets_gone packets_missing handed_out fates_of gone not_gone sends_of outputs_from packets_for empty_receives HaveFates bodies_in_log steps_by_group PutInTurn replica_after
+lived_still order log before after a b o result port clock stops maybe has only logged =
     let r : Replica = booted order log in
     let still : Carries (peers_in order) r unwatched [] [] a a = record {
       traffic = both_same (Passes a.framing [] []) a.traffic (passes_none a.framing);
       empties = raised_none a.empties a.empties (omega arith);
       losses = raised_none a.losses a.losses (omega arith);
+      too_long = refl;
       faults = omega arith;
       framing = refl;
       borrowed_as = refl;
@@ -211,7 +223,7 @@ lived_still order log before after a b o result port clock stops maybe has only 
       are_groups = tt;
       fates = tt;
       addressed = tt;
-      takes = record { wished = tt; readings = clock };
+      takes = record { wished = tt; can_be = tt; readings = clock };
       carries = subst (λ (x : PortMeaning). Carries (peers_in order) r unwatched [] [] a x) (sym port) still;
       goes = record { honest = refl; fill = refl; borrowed_as = refl; later = omega arith };
       keeps = λ honest. record {
@@ -219,7 +231,9 @@ lived_still order log before after a b o result port clock stops maybe has only 
         put = refl;
         bodies = has honest;
         is = λ _. refl;
+        log = logged honest;
         stops = stops (replica_after r (kept_turns []));
+        synced = synced_now o.seen [] o.seen o.may_leave (has honest) (only honest);
         any_moment = subst (λ (gs : List (List (Turn × ℕ))). LeavesOnly o o (IsLeftOf o.seen (bodies_in_log r gs))) (sym maybe) (not_begun o o.seen (has honest) (only honest));
       };
     }

@@ -1,5 +1,5 @@
 -- The turns of a node one after another: the state between two turns, and how they end.
-use Rattle.std.proofs.Common.{◌≡◌, ◌≢◌, ◌⊎◌, inl, inr, IsTrue, ℕ, ◌+◌, ◌-◌, ◌<◌, ◌≤◌, List, [], ◌∷◌, ◌++◌, length, refl, sym, ◌∙◌, ap, subst, arith, append_assoc, Bool}
+use Rattle.std.proofs.Common.{◌≡◌, ◌≢◌, ◌⊎◌, inl, inr, IsTrue, ℕ, ◌+◌, ◌-◌, ◌<◌, ◌≤◌, List, [], ◌∷◌, ◌++◌, length, refl, sym, ◌∙◌, ap, subst, arith, append_assoc, Bool, false}
 use Rattle.std.proofs.lemmas.List.{append-nil, map-append}
 use Rattle.std.specs.Prelude.{Option, Some, None, Result, Ok, Err}
 use Rattle.std.specs.List.{AllByRecursion}
@@ -16,17 +16,18 @@ use Rattle.crsm_spec.specs.Node.{Turn, outputs_from, turn}
 use Rattle.crsm_spec.specs.Replica.{Replica}
 use Rattle.crsm_replica_io.specs.Outgoing.{packets_for, raised_by}
 use Rattle.crsm_replica_detector.specs.Watching.{Watch, watched}
-use Rattle.crsm_replica_detector.specs.Wished.{AreWished, empty_receives, replica_after, watch_after}
+use Rattle.crsm_spec_process.specs.Turns.{gone, not_gone, replica_after}
+use Rattle.crsm_replica_detector.specs.Wished.{AreWished, empty_receives, watch_after}
 use Rattle.crsm_replica_detector.specs.Detector.{DetectorStands}
 use Rattle.crsm_replica_detector.specs.declared.detector.Detector.{Detector}
 use Rattle.crsm_shell.specs.declared.shell.Shell.{Shell}
 use Rattle.crsm_shell.specs.Flushing.{IsFull, SendsNone, SendsPackets}
 use Rattle.crsm_shell.specs.Shell.{ShellStands, group_body, sends_of}
-use Rattle.crsm_shell.specs.Words.{disk_of, peers_of}
+use Rattle.crsm_shell.specs.Words.{disk_of, has_failed, peers_of}
 use Rattle.crsm_node.specs.Devices.{Node, node_of}
-use Rattle.crsm_node.specs.Kept.{HasBehind, IsLeftOf, PutInTurn, bodies_in_log}
+use Rattle.crsm_node.specs.Kept.{HasBehind, HasLogOf, IsLeftOf, PutInTurn, bodies_in_log}
 use Rattle.crsm_node.specs.Received.{BothTell, GivesAll, Passes, datagrams_in}
-use Rattle.crsm_node.specs.Sent.{HaveFates, fates_of, gone, handed_out, not_gone, packets_gone, packets_missing, steps_by_group}
+use Rattle.crsm_node.specs.Sent.{HaveFates, fates_of, handed_out, packets_gone, packets_missing, steps_by_group}
 use Rattle.crsm_node.specs.Serving.{Carries, MayGoOn, Serves, Takes, turns_by_group, turns_text, with_lost}
 use Rattle.crsm_node.specs.Steps.{FailsToReceive, FailsToTake, IsIdle, KeepsGroup, KeepsSteps, TakesTurn, Took, turn_text}
 use Rattle.crsm_node.specs.declared.errors.NodeError.{NodeError}
@@ -51,6 +52,7 @@ carries_idle peers r w ts groups a b c carries idle =
       traffic = subst (λ (x : Option Traffic). BothTell (Passes a.framing (datagrams_in ts) (packets_gone peers r groups)) a.traffic x) (sym idle.traffic) carries.traffic;
       empties = subst (λ (k : ℕ). raised_by (empty_receives w r ts) a.empties ≤ k) (sym idle.empties) carries.empties;
       losses = subst (λ (k : ℕ). raised_by (packets_missing peers r groups) a.losses ≤ k) (sym idle.losses) carries.losses;
+      too_long = idle.too_long ∙ carries.too_long;
       faults = omega (arith, before, after);
       framing = idle.framing ∙ carries.framing;
       borrowed_as = idle.borrowed_as ∙ carries.borrowed_as;
@@ -61,6 +63,7 @@ idle_unsent a b none = record {
   traffic = ap (λ (m : PortMeaning). m.traffic) none.same;
   empties = ap (λ (m : PortMeaning). m.empties) none.same;
   losses = ap (λ (m : PortMeaning). m.losses) none.same;
+  too_long = ap (λ (m : PortMeaning). m.too_long) none.same;
   later = subst (λ (k : ℕ). a.faults ≤ k) (sym (ap (λ (m : PortMeaning). m.faults) none.same)) (omega arith);
   framing = ap (λ (m : PortMeaning). m.framing) none.same;
   borrowed_as = ap (λ (m : PortMeaning). m.borrowed_as) none.same;
@@ -71,6 +74,8 @@ disk_same r groups a b c on goes same = record {
   goes = goes_then a b c on.goes goes;
   put = λ honest. subst (λ (f : List ℕ). PutInTurn (bodies_in_log r (turns_by_group groups)) a.seen f) (sym same.seen) (on.put honest);
   has = λ honest. subst (λ (f : List ℕ). HasBehind a.seen (bodies_in_log r (turns_by_group groups)) f) (sym same.seen) (on.has honest);
+  log = λ honest. subst (λ (f : List ℕ). HasLogOf (replica_after r (kept_turns groups)) f) (sym same.seen) (on.log honest);
+  durable = λ honest f is. on.durable honest f ((same.images f).0 is) ∙ sym same.seen;
   any_moment = λ honest. runs_no_further a b c (IsLeftOf a.seen (bodies_in_log r (turns_by_group groups))) (on.any_moment honest) same;
 }
 
@@ -103,14 +108,15 @@ puts_none None = refl
 puts_none (Some had) = ap Some (sym (append-nil had))
 
 starts : {C P D O : Type 0} {g : _} (disk : D → DiskMeaning) (port : P → PortMeaning) (clock : C → Option Readings) (written : O → Option (List ℕ)) (faults : O → ℕ) (r : Replica) (w : Watch) (s : Shell D g) (d : Detector) (p : P) (c : C) (o : O) → (IsTrue (disk (disk_of s)).honest → HasBehind (disk (disk_of s)).seen [] (disk (disk_of s)).seen) →
-    (IsTrue (disk (disk_of s)).honest → Only (disk (disk_of s)).seen (disk (disk_of s)).may_leave) → SoFar r w [] [] (node_of disk port clock written faults s d p c o) (node_of disk port clock written faults s d p c o)
-unfolding kept_turns AreWished GivesAll datagrams_in packets_gone packets_missing handed_out fates_of gone not_gone sends_of outputs_from packets_for empty_receives HaveFates bodies_in_log steps_by_group PutInTurn
-starts disk port clock written faults r w s d p c o has only = record {
-  takes = record { wished = tt; readings = refl };
+    (IsTrue (disk (disk_of s)).honest → Only (disk (disk_of s)).seen (disk (disk_of s)).may_leave) → (IsTrue (disk (disk_of s)).honest → HasLogOf r (disk (disk_of s)).seen) → SoFar r w [] [] (node_of disk port clock written faults s d p c o) (node_of disk port clock written faults s d p c o)
+unfolding kept_turns AreWished GivesAll datagrams_in packets_gone packets_missing handed_out fates_of gone not_gone sends_of outputs_from packets_for empty_receives HaveFates bodies_in_log steps_by_group PutInTurn replica_after
+starts disk port clock written faults r w s d p c o has only logged = record {
+  takes = record { wished = tt; can_be = tt; readings = refl };
   carries = record {
     traffic = both_same (Passes (port p).framing [] []) (port p).traffic (passes_none (port p).framing);
     empties = raised_none (port p).empties (port p).empties (omega arith);
     losses = raised_none (port p).losses (port p).losses (omega arith);
+    too_long = refl;
     faults = omega arith;
     framing = refl;
     borrowed_as = refl;
@@ -121,19 +127,21 @@ starts disk port clock written faults r w s d p c o has only = record {
     goes = record { honest = refl; fill = refl; borrowed_as = refl; later = omega arith };
     put = λ honest. refl;
     has = has;
+    log = logged;
+    durable = only;
     any_moment = λ honest. not_begun (disk (disk_of s)) (disk (disk_of s)).seen (has honest) (only honest);
   };
   peers = refl;
 }
 
 pub begins : {C P D O : Type 0} {g : _} (disk : D → DiskMeaning) (port : P → PortMeaning) (clock : C → Option Readings) (written : O → Option (List ℕ)) (faults : O → ℕ) (r : Replica) (w : Watch) (s : Shell D g) (d : Detector) (p : P) (c : C) (o : O) (text : List ℕ) (most : ℕ) → (IsTrue (disk (disk_of s)).honest → HasBehind (disk (disk_of s)).seen [] (disk (disk_of s)).seen) →
-    (IsTrue (disk (disk_of s)).honest → Only (disk (disk_of s)).seen (disk (disk_of s)).may_leave) → ShellStands s (disk (disk_of s)) r.log r [] → DetectorStands d r.me w → text ≡ [] →
+    (IsTrue (disk (disk_of s)).honest → Only (disk (disk_of s)).seen (disk (disk_of s)).may_leave) → (IsTrue (disk (disk_of s)).honest → HasLogOf r (disk (disk_of s)).seen) → ShellStands s (disk (disk_of s)) r.log r [] → DetectorStands d r.me w → text ≡ [] →
     Stage r w (node_of disk port clock written faults s d p c o) (node_of disk port clock written faults s d p c o) text 0 most
 unfolding kept_turns replica_after watch_after outputs_from turns_text
-begins disk port clock written faults r w s d p c o text most has only stands watches none = record {
+begins disk port clock written faults r w s d p c o text most has only logged stands watches none = record {
   groups = [];
   ts = [];
-  pends = record { so_far = starts disk port clock written faults r w s d p c o has only; wrote = puts_none (written o); later = omega arith; stands = stands; watches = watches; text_is = none };
+  pends = record { so_far = starts disk port clock written faults r w s d p c o has only logged; wrote = puts_none (written o); later = omega arith; stands = stands; watches = watches; text_is = none };
   is_open = none_open;
   are_groups = tt;
   shut = λ _. tt;
@@ -160,7 +168,7 @@ module _ {C P D O : Type 0} {g : _} (disk : D → DiskMeaning) (port : P → Por
   more_so_far t k =
       let same = append_assoc kept ts (t ∷ []) in
       let was = now.so_far in record {
-        takes = subst (λ (us : List (Turn × ℕ)). Takes r w us start.clock (clock c')) same (takes_more r w all t start.clock (clock c) (clock c') was.takes k.fulfils k.gives);
+        takes = subst (λ (us : List (Turn × ℕ)). Takes r w us start.clock (clock c')) same (takes_more r w all t start.clock (clock c) (clock c') was.takes k.fulfils k.can_be k.gives);
         carries = subst (λ (us : List (Turn × ℕ)). Carries start.peers r w us groups start.port (port p')) same (carries_more start.peers r w all t groups start.port (port p) (port p') was.carries k.off);
         fates = was.fates;
         addressed = was.addressed;
@@ -240,7 +248,8 @@ module _ {C P D O : Type 0} {g : _} (disk : D → DiskMeaning) (port : P → Por
 
 module _ {C P D O : Type 0} {g : _} (disk : D → DiskMeaning) (port : P → PortMeaning) (clock : C → Option Readings) (written : O → Option (List ℕ)) (faults : O → ℕ)
     (r : Replica) (w : Watch) (start : Node) (s s' : Shell D g) (d : Detector) (p p' : P) (c : C) (o o' : O) (text : List ℕ) (groups : List Group) (ts : List (Turn × ℕ))
-    (now : Pends r w start (node_of disk port clock written faults s d p c o) text groups ts) (goes : Goes (disk (disk_of s)) (disk (disk_of s'))) (same_peers : peers_of s' ≡ peers_of s) (later : faults o ≤ faults o') where
+    (now : Pends r w start (node_of disk port clock written faults s d p c o) text groups ts) (goes : Goes (disk (disk_of s)) (disk (disk_of s'))) (same_peers : peers_of s' ≡ peers_of s) (later : faults o ≤ faults o')
+    (durable : has_failed s' ≡ false → IsTrue (disk (disk_of s')).honest → Only (disk (disk_of s')).seen (disk (disk_of s')).may_leave) where
   abbrev before : List (Turn × ℕ)
   before = kept_turns groups
 
@@ -253,6 +262,14 @@ module _ {C P D O : Type 0} {g : _} (disk : D → DiskMeaning) (port : P → Por
   abbrev with_fates : List Bool → List Group
   with_fates fates = groups ++ (record { turns = ts; fates = fates }) ∷ []
 
+  kept_log : (q : Replica) → ShellStands s' (disk (disk_of s')) q.log q [] → IsTrue (disk (disk_of s')).honest → HasLogOf q (disk (disk_of s')).seen
+  unfolding ShellStands
+  kept_log q stands honest = stands.file honest
+
+  not_failed : (q : Replica) → ShellStands s' (disk (disk_of s')) q.log q [] → has_failed s' ≡ false
+  unfolding ShellStands
+  not_failed q stands = stands.well
+
   keeps_turns : KeepsSteps disk s s' (port p) (port p') (replica_after r every) (outputs_from k ts) → KeepsTurns start.peers k ts (node_of disk port clock written faults s d p c o) (node_of disk port clock written faults s' d p' c o')
   keeps_turns h = record {
     sent = subst (λ (ps : List ℕ). SendsPackets (packets_for ps (sends_of (outputs_from k ts))) (port p) (port p')) now.so_far.peers h.sent;
@@ -260,6 +277,8 @@ module _ {C P D O : Type 0} {g : _} (disk : D → DiskMeaning) (port : P → Por
     adds = h.added;
     left = h.left;
     fits = h.fits;
+    log = λ honest. subst (λ (q : Replica). HasLogOf q (disk (disk_of s')).seen) (replica_append r before ts) (kept_log (replica_after r every) h.stands honest);
+    durable = durable (not_failed (replica_after r every) h.stands);
     clock = refl;
     peers = same_peers;
   }

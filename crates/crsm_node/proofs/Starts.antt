@@ -170,3 +170,13 @@ boot_mine me n [] = go (nat_lt me n)
     go true = refl
     go false = refl
 boot_mine me n (rec ∷ log) = refl
+
+-- one of as many
+pub boot_of : (me n : ℕ) (log : Log) → (boot me n log).replica.n ≡ n
+unfolding boot first_boot founding_boot boot_again keep begun fresh when◌then◌otherwise◌
+boot_of me n [] = go (nat_lt me n)
+  where
+    go : (b : Bool) → (when b then founding_boot me n otherwise boot_again me n []).replica.n ≡ n
+    go true = refl
+    go false = refl
+boot_of me n (rec ∷ log) = refl

@@ -3,12 +3,14 @@ use Rattle.std.proofs.Common.{◌≡◌, ℕ, suc, ◌+◌, List, [], ◌∷◌,
 use Rattle.std.proofs.lemmas.List.{append-nil}
 use Rattle.std.proofs.lemmas.Grind.{flat_map-append}
 use Rattle.std.specs.List.{flat_map}
+use Rattle.crsm_fact_step.proofs.Batches.{turn_grown}
 use Rattle.crsm_spec.specs.Draft.{Draft}
 use Rattle.crsm_spec.specs.Node.{Turn, outputs_from, turn}
 use Rattle.crsm_spec.specs.Replica.{Replica}
 use Rattle.crsm_spec_process.specs.Lives.{Group, kept_turns}
 use Rattle.crsm_replica_detector.specs.Watching.{Watch, watched}
-use Rattle.crsm_replica_detector.specs.Wished.{AreWished, Fulfils, empty_receive, empty_receives, replica_after, watch_after, wish_of}
+use Rattle.crsm_spec_process.specs.Turns.{replica_after}
+use Rattle.crsm_replica_detector.specs.Wished.{AreWished, Fulfils, empty_receive, empty_receives, watch_after, wish_of}
 use Rattle.crsm_node.specs.Kept.{bodies_in_log, body_in_log}
 use Rattle.crsm_node.specs.Sent.{steps_by_group}
 
@@ -44,6 +46,15 @@ pub count_more : (ts : List (Turn × ℕ)) (t : Turn × ℕ) → length (ts ++ t
 count_more ts t = length-append ts (t ∷ [])
 
 -- ---- turns behind others
+
+-- it is the same replica, of as many
+pub same_replica : (r : Replica) (ts : List (Turn × ℕ)) → ((replica_after r ts).me ≡ r.me) × ((replica_after r ts).n ≡ r.n)
+unfolding replica_after
+same_replica r [] = (refl, refl)
+same_replica r (t ∷ ts) =
+    let one = turn_grown r t in
+    let on = same_replica (turn r t).replica ts in
+    (on.0 ∙ one.me, on.1 ∙ one.n)
 
 pub replica_append : (r : Replica) (ts us : List (Turn × ℕ)) → replica_after r (ts ++ us) ≡ replica_after (replica_after r ts) us
 unfolding replica_after

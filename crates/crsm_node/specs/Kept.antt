@@ -7,7 +7,7 @@ use Rattle.crsm_spec.specs.Replica.{Replica}
 use Rattle.crsm_spec.specs.Lists.{IsPrefixOf}
 use Rattle.crsm_log.specs.Format.{bodies_of, found, reading}
 use Rattle.crsm_shell.specs.Flushing.{IsFull}
-use Rattle.crsm_shell.specs.Shell.{group_body}
+use Rattle.crsm_shell.specs.Shell.{HasLog, group_body}
 use Rattle.crsm_node.specs.Sent.{steps_by_group}
 
 -- the body of a group, none where it has no record
@@ -25,6 +25,14 @@ bodies_in_log r groups = flat_map body_in_log (steps_by_group r groups)
 -- the file has these bodies behind those of the one before
 abbrev pub HasBehind : List ℕ → List (List ℕ) → List ℕ → Type 0
 HasBehind before bodies file = reading file ≡ found (bodies_of before ++ bodies)
+
+-- the file has these bodies behind those of the one before, and maybe more
+abbrev pub HasAll : List ℕ → List (List ℕ) → List ℕ → Type 0
+HasAll before bodies file = (more : List (List ℕ)) × HasBehind before (bodies ++ more) file
+
+-- the file has the log of this replica
+abbrev pub HasLogOf : Replica → List ℕ → Type 0
+HasLogOf r file = HasLog r.me r.n file r.log
 
 -- These bodies were put, from one file to another, one behind another, each where the log was not full for it.
 unfoldable pub PutInTurn : List (List ℕ) → List ℕ → List ℕ → Type 0

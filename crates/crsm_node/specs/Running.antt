@@ -18,14 +18,14 @@ use Rattle.crsm_log.specs.Log.{Goes}
 use Rattle.crsm_port.specs.Cluster.{clustered, over}
 use Rattle.crsm_port.specs.Meaning.{Framing, Meaning as PortMeaning}
 use Rattle.crsm_replica_detector.specs.Watching.{unwatched}
-use Rattle.crsm_replica_detector.specs.Wished.{replica_after}
+use Rattle.crsm_spec_process.specs.Turns.{replica_after}
 use Rattle.crsm_replica_detector.specs.declared.detector.Detector.{Detector}
 use Rattle.crsm_shell.specs.Booting.{HasFullLog, IsBadLog, ReadsAsBefore, boot_body}
 use Rattle.crsm_shell.specs.Shell.{HasLog}
 use Rattle.crsm_shell.specs.declared.shell.Shell.{Shell}
 use Rattle.crsm_node.specs.Devices.{node_of}
 use Rattle.crsm_node.specs.Errors.{serve_end}
-use Rattle.crsm_node.specs.Kept.{HasBehind, IsLeftOf, PutInTurn, bodies_in_log}
+use Rattle.crsm_node.specs.Kept.{HasAll, HasBehind, IsLeftOf, PutInTurn, bodies_in_log}
 use Rattle.crsm_node.specs.Order.{peers_in}
 use Rattle.crsm_node.specs.Sent.{AreAddressed, HaveFates}
 use Rattle.crsm_node.specs.Serving.{Carries, Serves, StopsAt, Takes, maybe_kept, turns_by_group, with_lost}
@@ -128,7 +128,8 @@ IsLeftInLife order life old result file =
     ReadsAsBefore old file ⊎ IsLeftOf old.seen (boot_body order.me order.n life.found ∷ bodies_in_log (booted order life.found) (maybe_kept life.groups life.lost result)) file
 
 -- The content of the disk: the bodies that were found, followed by the boot's, and then one for each group that has a
--- record, each put while the log was not full; and a crash at any moment leaves a prefix of these.
+-- record, each put while the log was not full; and a crash at any moment leaves a prefix of these. Nothing of a group was
+-- sent before it was synced: a crash at the end leaves all groups whose output was. The log is that of the life.
 pub record KeepsLife (order : NodeOrder) (life : Life) (old new : DiskMeaning) (result : Result (Unit {0}) NodeError) : Type 0 where
   pub begun : List ℕ
   pub file : List ℕ
@@ -136,7 +137,9 @@ pub record KeepsLife (order : NodeOrder) (life : Life) (old new : DiskMeaning) (
   pub put : PutInTurn (bodies_in_log (booted order life.found) (turns_by_group life.groups)) begun file
   pub bodies : HasBehind old.seen (boot_body order.me order.n life.found ∷ bodies_in_log (booted order life.found) (turns_by_group life.groups)) file
   pub is : (result ≡ Err errors.DiskFault → ⊥) → new.seen ≡ file
+  pub log : HasLog order.me order.n file (replica_after (booted order life.found) (kept_turns life.groups)).log
   pub stops : StopsAt (replica_after (booted order life.found) (kept_turns life.groups)) life.lost file result
+  pub synced : (c : List ℕ) → new.may_leave c → HasAll old.seen (boot_body order.me order.n life.found ∷ bodies_in_log (booted order life.found) (turns_by_group life.groups)) c
   pub any_moment : LeavesOnly old new (IsLeftInLife order life old result)
 
 -- the sheet, or a prefix of it where it failed, or memory ran out before the first turn
@@ -189,14 +192,18 @@ abbrev pub devices_of : {C P D O : Type 0} → (D → DiskMeaning) → (P → Po
 devices_of disk port clock written faults d p c o =
     record { disk = unlent_disk (disk d); port = unlent_port (port p); clock = clock c; sheet = written o; faults = faults o }
 
--- the same over the port of a cluster, where this number of sends were too long, and this framing is on each datagram
-abbrev pub over_cluster : ℕ → ℕ → Framing → Devices → Devices
-over_cluster cluster too_long framing devices = record devices { port = record (clustered cluster too_long devices.port) { framing = over cluster framing } }
+-- the same over the port of a cluster, where no send was too long, and this framing is on each datagram
+abbrev pub over_cluster : ℕ → Framing → Devices → Devices
+over_cluster cluster framing devices = record devices { port = record (clustered cluster 0 devices.port) { framing = over cluster framing } }
 
 -- memory ran out before the node began
 abbrev pub NotBegun : Devices → Devices → NodeEnd → Type 0
 NotBegun old new end = (end ≡ ends.NoMemory) × Goes old.disk new.disk × (new.disk.seen ≡ old.disk.seen) × (new.clock ≡ old.clock) × (new.sheet ≡ old.sheet)
 
--- The traffic of the cluster's port went over the port below with its framing.
+-- The traffic of the cluster's port went over the port below with its framing, and its losses are those of the port below.
+abbrev pub RunsNumbered : NodeOrder → Devices → Devices → NodeEnd → Type 0
+RunsNumbered order old new end = Runs order (over_cluster order.cluster old.port.framing old) (over_cluster order.cluster old.port.framing new) end ⊎ NotBegun old new end
+
+-- The node of cluster 0 runs over the port itself, and that of any other over the port of its cluster.
 abbrev pub RunsOverCluster : NodeOrder → Devices → Devices → NodeEnd → Type 0
-RunsOverCluster order old new end = ((too_long : ℕ) × Runs order (over_cluster order.cluster 0 old.port.framing old) (over_cluster order.cluster too_long old.port.framing new) end) ⊎ NotBegun old new end
+RunsOverCluster order old new end = (order.cluster ≡ 0 → Runs order old new end) × (order.cluster ≢ 0 → RunsNumbered order old new end)

@@ -1,12 +1,12 @@
 -- The datagrams of groups of turns, and which of them are sent.
-use Rattle.std.specs.Prelude.{◌≡◌, ℕ, Bool, List, [], ◌∷◌, length, IsSome, if◌then◌else◌}
+use Rattle.std.specs.Prelude.{◌≡◌, ℕ, Bool, List, [], ◌∷◌, length, IsSome}
 use Rattle.std.specs.List.{AllByRecursion, flat_map}
 use Rattle.crsm_base.specs.declared.send.Send.{Send}
 use Rattle.crsm_spec.specs.Draft.{Draft}
 use Rattle.crsm_spec.specs.Node.{Turn, outputs_from}
 use Rattle.crsm_spec.specs.Replica.{Replica}
 use Rattle.crsm_spec_process.specs.Lives.{Group, kept_turns}
-use Rattle.crsm_replica_detector.specs.Wished.{replica_after}
+use Rattle.crsm_spec_process.specs.Turns.{gone, not_gone, replica_after}
 use Rattle.crsm_port.specs.Meaning.{Packet}
 use Rattle.crsm_shell.specs.Shell.{sends_of}
 use Rattle.crsm_replica_io.specs.Outgoing.{address_of, packets_for}
@@ -22,17 +22,6 @@ handed_out r groups = sends_of (outputs_from r (kept_turns groups))
 
 unfoldable pub fates_of : List Group → List Bool
 fates_of groups = flat_map (λ g. g.fates) groups
-
--- the part of the output that was sent, and the part that was not
-unfoldable pub gone : List Send → List Bool → List Send
-gone [] fates = []
-gone (s ∷ sends) [] = []
-gone (s ∷ sends) (fate ∷ fates) = if fate then s ∷ gone sends fates else gone sends fates
-
-unfoldable pub not_gone : List Send → List Bool → List Send
-not_gone [] fates = []
-not_gone (s ∷ sends) [] = []
-not_gone (s ∷ sends) (fate ∷ fates) = if fate then not_gone sends fates else s ∷ not_gone sends fates
 
 -- its receiver has an address
 abbrev pub HasAddress : List ℕ → Send → Type 0

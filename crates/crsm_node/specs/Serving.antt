@@ -1,5 +1,6 @@
 -- The effects of a node over a number of turns.
 use Rattle.std.specs.Prelude.{◌≡◌, ℕ, ◌≤◌, List, [], ◌∷◌, ◌++◌, length, map, IsTrue, Option, Result, Ok, Err}
+use Rattle.std.specs.List.{AllByRecursion}
 use Rattle.crsm_port_faults.specs.Counts.{Rose}
 use Rattle.crsm_spec.specs.Node.{Turn, outputs_from}
 use Rattle.crsm_spec.specs.Replica.{Replica}
@@ -13,11 +14,12 @@ use Rattle.crsm_log.specs.Log.{Goes}
 use Rattle.crsm_port.specs.Meaning.{Meaning as PortMeaning}
 use Rattle.crsm_replica_io.specs.Outgoing.{raised_by}
 use Rattle.crsm_replica_detector.specs.Watching.{Watch}
-use Rattle.crsm_replica_detector.specs.Wished.{AreWished, empty_receives, replica_after, watch_after}
+use Rattle.crsm_spec_process.specs.Turns.{CanBeTaken, replica_after}
+use Rattle.crsm_replica_detector.specs.Wished.{AreWished, empty_receives, watch_after}
 use Rattle.crsm_shell.specs.Flushing.{IsFull}
 use Rattle.crsm_shell.specs.Shell.{group_body}
 use Rattle.crsm_node.specs.Devices.{Node}
-use Rattle.crsm_node.specs.Kept.{HasBehind, IsLeftOf, PutInTurn, bodies_in_log}
+use Rattle.crsm_node.specs.Kept.{HasAll, HasBehind, HasLogOf, IsLeftOf, PutInTurn, bodies_in_log}
 use Rattle.crsm_node.specs.Received.{BothTell, GivesAll, Passes, datagrams_in, readings_of}
 use Rattle.crsm_node.specs.Sent.{AreAddressed, HaveFates, packets_gone, packets_missing}
 use Rattle.crsm_node.specs.declared.errors.NodeError.{NodeError}
@@ -38,17 +40,20 @@ turns_text turns = sheet_text (map turn_line turns)
 
 -- ---- its devices
 
--- Each turn is one that was wanted, at a reading of the clock.
+-- Each turn is one that was wanted and that can be taken, at a reading of the clock.
 pub record Takes (r : Replica) (w : Watch) (turns : List (Turn × ℕ)) (before after : Option Readings) : Type 0 where
   pub wished : AreWished w r turns
+  pub can_be : AllByRecursion CanBeTaken turns
   pub readings : GivesAll (readings_of turns) before after
 
 -- The port gave the datagrams among these turns, and sent what went out of the groups. A turn that wanted to receive
--- took a tick only where a receive was empty, and no more is missing than the count of losses rose by.
+-- took a tick only where a receive was empty, and no more is missing than the count of losses rose by. No send was too
+-- long.
 pub record Carries (peers : List ℕ) (r : Replica) (w : Watch) (turns : List (Turn × ℕ)) (groups : List Group) (old new : PortMeaning) : Type 0 where
   pub traffic : BothTell (Passes old.framing (datagrams_in turns) (packets_gone peers r groups)) old.traffic new.traffic
   pub empties : raised_by (empty_receives w r turns) old.empties ≤ new.empties
   pub losses : raised_by (packets_missing peers r groups) old.losses ≤ new.losses
+  pub too_long : new.too_long ≡ old.too_long
   pub faults : old.faults ≤ new.faults
   pub framing : new.framing ≡ old.framing
   pub borrowed_as : new.borrowed_as ≡ old.borrowed_as
@@ -67,13 +72,16 @@ maybe_kept groups lost (Err _) = turns_by_group groups
 maybe_kept groups lost (Ok _) = turns_by_group groups
 
 -- Where the disk is honest it has one body for each group that has a record, behind those that it had, each put where
--- the log was not full; and a crash at any moment leaves a prefix of these.
+-- the log was not full; and a crash at any moment leaves a prefix of these. These groups, whose output was sent, are
+-- synced: a crash at the end leaves them all.
 pub record Keeps (r : Replica) (groups : List Group) (lost : List (Turn × ℕ)) (old new : DiskMeaning) (result : Result (Unit {0}) NodeError) : Type 0 where
   pub file : List ℕ
   pub put : PutInTurn (bodies_in_log r (turns_by_group groups)) old.seen file
   pub bodies : HasBehind old.seen (bodies_in_log r (turns_by_group groups)) file
   pub is : (result ≡ Err DiskFault → ⊥) → new.seen ≡ file
+  pub log : HasLogOf (replica_after r (kept_turns groups)) file
   pub stops : StopsAt (replica_after r (kept_turns groups)) lost file result
+  pub synced : (c : List ℕ) → new.may_leave c → HasAll old.seen (bodies_in_log r (turns_by_group groups)) c
   pub any_moment : LeavesOnly old new (IsLeftOf old.seen (bodies_in_log r (maybe_kept groups lost result)))
 
 -- the lines of the turns that were kept, or a prefix of them where the sheet failed

@@ -1,11 +1,13 @@
 -- The effects of a node in one turn, and when it flushes a group.
 use Rattle.std.specs.Prelude.{◌≡◌, ◌⊎◌, ◌↔◌, ℕ, ◌≤◌, List, [], ◌∷◌, ◌++◌, Bool, IsTrue, Option, Result, Ok, Err}
+use Rattle.crsm_base.specs.Members.{IsMembers}
 use Rattle.crsm_port_faults.specs.Counts.{Rose}
 use Rattle.crsm_spec.specs.Draft.{Draft}
 use Rattle.crsm_spec.specs.Log.{Log}
 use Rattle.crsm_spec.specs.Node.{Turn, turn}
 use Rattle.crsm_spec.specs.Replica.{Replica}
 use Rattle.crsm_spec_process.specs.Groups.{IsDatagram}
+use Rattle.crsm_spec_process.specs.Turns.{CanBeTaken}
 use Rattle.crsm_clock.specs.Readings.{Gives, Readings}
 use Rattle.crsm_io.specs.Streams.{Puts, PutsPrefix}
 use Rattle.crsm_text_sheet.specs.Grammar.{sheet_line_text}
@@ -14,6 +16,7 @@ use Rattle.crsm_disk.specs.Meaning.{Meaning as DiskMeaning, Same}
 use Rattle.crsm_port.specs.Meaning.{Meaning as PortMeaning}
 use Rattle.crsm_replica_io.specs.Outgoing.{packets_for, raised_by}
 use Rattle.crsm_replica_io.specs.declared.input.WantedInput.{WantedInput}
+use Rattle.crsm_replica_io.specs.declared.input.WantedInput.TheVariants as what
 use Rattle.crsm_replica_detector.specs.Detector.{DetectorStands}
 use Rattle.crsm_replica_detector.specs.Watching.{Watch, watched}
 use Rattle.crsm_replica_detector.specs.Wished.{Fulfils, empty_receive, wish_of}
@@ -37,13 +40,19 @@ pub record TakesOff (wanted : WantedInput) (t : Turn) (old new : PortMeaning) : 
   pub traffic : BothTell (Passes old.framing (datagram_in t) []) old.traffic new.traffic
   pub empties : raised_by (empty_receive wanted t) old.empties ≤ new.empties
   pub losses : new.losses ≡ old.losses
+  pub too_long : new.too_long ≡ old.too_long
   pub faults : new.faults ≡ old.faults
   pub framing : new.framing ≡ old.framing
   pub borrowed_as : new.borrowed_as ≡ old.borrowed_as
 
--- this turn was wanted, and is taken at a reading of the clock
+-- a suspicion that is wanted has members
+abbrev pub HasMembers : WantedInput → Type 0
+HasMembers wanted = (ms : List ℕ) → wanted ≡ what.Suspect ms → IsMembers ms
+
+-- this turn was wanted, can be taken, and is taken at a reading of the clock
 pub record Took (r : Replica) (w : Watch) (t : Turn × ℕ) (ahead later : Option Readings) (old new : PortMeaning) : Type 0 where
   pub fulfils : Fulfils (wish_of w r) t.0
+  pub can_be : CanBeTaken t
   pub gives : Gives ahead later t.1
   pub off : TakesOff (wish_of w r) t.0 old new
 
@@ -62,6 +71,7 @@ pub record IsIdle (old new : PortMeaning) : Type 0 where
   pub traffic : new.traffic ≡ old.traffic
   pub empties : new.empties ≡ old.empties
   pub losses : new.losses ≡ old.losses
+  pub too_long : new.too_long ≡ old.too_long
   pub later : old.faults ≤ new.faults
   pub framing : new.framing ≡ old.framing
   pub borrowed_as : new.borrowed_as ≡ old.borrowed_as

@@ -32,6 +32,7 @@ pub(crate) fn keep_group<P: Port, D: Disk, O: Sink, R: Reporter>(
     ensures had_failed { IsErrOf result NodeError.Failed → has_failed shell.old ≡ true }
 {
     shell.flush(port)?;
+    let_go(port);
     reporter.kept();
     let written = put_all(sheet, pending.lines.as_slice());
     pending.clear();
@@ -39,4 +40,11 @@ pub(crate) fn keep_group<P: Port, D: Disk, O: Sink, R: Reporter>(
         Ok(()) => Ok(()),
         Err(_) => Err(NodeError::WriteFault),
     }
+}
+
+/// Lets the port send what waits for the end of the group.
+fn let_go<P: Port>(port: &mut P)
+    ensures { P.meaning port.new ≡ P.meaning port.old }
+{
+    port.flush();
 }

@@ -4,7 +4,7 @@ ghost use Rattle.std.specs.Prelude.{◌≡◌, []};
 ghost use Rattle.crsm_spec.specs.Replica.{Replica};
 ghost use Rattle.crsm_shell.specs.Shell.{ShellStands};
 ghost use Rattle.crsm_shell.specs.Words.{disk_of};
-ghost use Rattle.crsm_node.specs.Running.{Runs, RunsOverCluster, RunsShell, devices_of, end_of};
+ghost use Rattle.crsm_node.specs.Running.{Runs, RunsNumbered, RunsOverCluster, RunsShell, devices_of, end_of};
 
 use crate::errors::{NodeEnd, NodeError};
 use crate::opening::write_opening;
@@ -22,8 +22,8 @@ use crsm_shell::{Booted, Shell, logs_are_one};
 use std::alloc::Global;
 
 /// Runs a node: claims its log for the cluster, boots the replica on it, writes the first lines of the sheet, and takes
-/// all turns. Datagrams use the port of the cluster. The reporter receives the content of the log once the replica is
-/// booted, and then what each turn comes to. Returns how the run ended.
+/// all turns. In a cluster other than 0 datagrams use the port of the cluster. The reporter receives the content of the
+/// log once the replica is booted, and then what each turn comes to. Returns how the run ended.
 pub fn run_node<P: Port, D: Disk, C: Clock, O: Sink, R: Reporter>(
     alloc: Global,
     order: &NodeOrder,
@@ -36,6 +36,25 @@ pub fn run_node<P: Port, D: Disk, C: Clock, O: Sink, R: Reporter>(
     ensures { let at = devices_of D.meaning P.meaning C.readings O.written O.faults in
         RunsOverCluster order.now (at disk.old port.old clock.old sheet.old) (at disk.new port.new clock.new sheet.new) result }
 {
+    if order.cluster == 0 {
+        return run_over(alloc, order, port, disk, clock, sheet, reporter);
+    }
+    run_numbered(alloc, order, port, disk, clock, sheet, reporter)
+}
+
+/// Runs a node over the port of its cluster, over this port.
+fn run_numbered<P: Port, D: Disk, C: Clock, O: Sink, R: Reporter>(
+    alloc: Global,
+    order: &NodeOrder,
+    port: &mut P,
+    disk: &mut D,
+    clock: &mut C,
+    sheet: &mut O,
+    reporter: &mut R,
+) -> NodeEnd
+    ensures { let at = devices_of D.meaning P.meaning C.readings O.written O.faults in
+        RunsNumbered order.now (at disk.old port.old clock.old sheet.old) (at disk.new port.new clock.new sheet.new) result }
+{
     let mut over = match ClusterPort::new(alloc, &mut *port, order.cluster) {
         Ok(over) => over,
         Err(why) => return NodeEnd::from(why),
@@ -45,7 +64,7 @@ pub fn run_node<P: Port, D: Disk, C: Clock, O: Sink, R: Reporter>(
     end
 }
 
-/// Runs a node over the port of the cluster.
+/// Runs a node over a port that it has for itself.
 fn run_over<P: Port, D: Disk, C: Clock, O: Sink, R: Reporter>(
     alloc: Global,
     order: &NodeOrder,
@@ -57,6 +76,7 @@ fn run_over<P: Port, D: Disk, C: Clock, O: Sink, R: Reporter>(
 ) -> NodeEnd
     ensures runs { let at = devices_of D.meaning P.meaning C.readings O.written O.faults in
         Runs order.now (at disk.old port.old clock.old sheet.old) (at disk.new port.new clock.new sheet.new) result }
+    ensures too_long { (P.meaning port.new).too_long ≡ (P.meaning port.old).too_long }
     ensures framing { (P.meaning port.new).framing ≡ (P.meaning port.old).framing }
     ensures borrowed_as { (P.meaning port.new).borrowed_as ≡ (P.meaning port.old).borrowed_as }
 {

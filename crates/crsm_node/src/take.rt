@@ -12,7 +12,7 @@ ghost use Rattle.crsm_replica_detector.specs.Watching.{heard_at};
 ghost use Rattle.crsm_shell.specs.Shell.{WhereStands};
 ghost use Rattle.crsm_shell.specs.Taking.{turn_of};
 ghost use Rattle.crsm_shell.specs.Words.{disk_of, has_failed, peers_of};
-ghost use Rattle.crsm_node.specs.Steps.{FailsToTake, TakesTurn};
+ghost use Rattle.crsm_node.specs.Steps.{FailsToTake, HasMembers, TakesTurn};
 
 use crate::errors::NodeError;
 use crate::pending::PendingTurns;
@@ -55,6 +55,7 @@ pub(crate) fn take_turn<C: Clock, P: Port, D: Disk, R: Reporter>(
     }
     let what = detector.next(shell.state())?;
     poll_soon(port, &what, pending);
+    has_members(&what);
     let turned = shell.take(what, clock, port)?;
     note(detector, &turned);
     let took_datagram = is_datagram(&turned.taken);
@@ -69,6 +70,18 @@ fn datagram_in<'a>(taken: &ReceivedInput, buffer: &'a [u8]) -> &'a [u8] {
     match taken {
         ReceivedInput::Datagram { len, .. } if *len <= buffer.len() => &buffer[..*len],
         _ => &[],
+    }
+}
+
+/// States that a suspicion has members.
+fn has_members(what: &WantedInput)
+    ensures { HasMembers what.now }
+{
+    match what {
+        WantedInput::Suspect(members) => {
+            let _members = members.as_slice();
+        }
+        WantedInput::Receive | WantedInput::Tick => {}
     }
 }
 

@@ -3,7 +3,8 @@ use Rattle.std.proofs.Common.{◌≡◌, ◌↔◌, ℕ, ◌+◌, List, [], ◌�
 use Rattle.crsm_spec.specs.Replica.{Replica}
 use Rattle.crsm_spec.specs.Node.{Turn, turn}
 use Rattle.crsm_replica_detector.specs.Watching.{Watch, watched}
-use Rattle.crsm_replica_detector.specs.Wished.{AreWished, empty_receive, empty_receives, replica_after, watch_after, wish_of}
+use Rattle.crsm_spec_process.specs.Turns.{replica_after}
+use Rattle.crsm_replica_detector.specs.Wished.{AreWished, empty_receive, empty_receives, watch_after, wish_of}
 
 pub watch_append : (w : Watch) (ts us : List (Turn × ℕ)) → watch_after w (ts ++ us) ≡ watch_after (watch_after w ts) us
 unfolding watch_after

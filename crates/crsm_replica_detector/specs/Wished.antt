@@ -48,14 +48,10 @@ pub record CountsWished (what : WantedInput) (t : Turn) (old new : ℕ) : Type 0
   pub later : old ≤ new
   pub rose : empty_receive what t ≡ 1 → Rose old new
 
--- the node's times and its replica after turns
+-- the node's times after turns
 unfoldable pub watch_after : Watch → List (Turn × ℕ) → Watch
 watch_after w [] = w
 watch_after w (t ∷ ts) = watch_after (watched w t) ts
-
-unfoldable pub replica_after : Replica → List (Turn × ℕ) → Replica
-replica_after r [] = r
-replica_after r (t ∷ ts) = replica_after (turn r t).replica ts
 
 -- each turn is one of what the node wants then
 unfoldable pub AreWished : Watch → Replica → List (Turn × ℕ) → Type 0

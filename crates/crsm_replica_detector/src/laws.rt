@@ -5,13 +5,14 @@ ghost use Rattle.crsm_base.specs.Replicas.{can_be_members, has};
 ghost use Rattle.crsm_spec.specs.Log.{Log, spec};
 ghost use Rattle.crsm_spec.specs.Node.{Turn};
 ghost use Rattle.crsm_spec.specs.Replica.{Replica};
+ghost use Rattle.crsm_spec_process.specs.Turns.{replica_after};
 ghost use Rattle.crsm_port.specs.Meaning.{Meaning};
 ghost use Rattle.crsm_replica_io.specs.Input.{TakesInput};
 ghost use Rattle.crsm_replica_io.specs.declared.input.WantedInput.{WantedInput};
 ghost use Rattle.crsm_replica_io.specs.declared.input.ReceivedInput.{ReceivedInput};
 ghost use Rattle.crsm_replica_detector.specs.Watching.{Watch, heard_at, watched};
 ghost use Rattle.crsm_replica_detector.specs.Wishing.{wish};
-ghost use Rattle.crsm_replica_detector.specs.Wished.{AreWished, CountsWished, Fulfils, chosen, empty_receives, watch_after, replica_after, with_turn};
+ghost use Rattle.crsm_replica_detector.specs.Wished.{AreWished, CountsWished, Fulfils, chosen, empty_receives, watch_after, with_turn};
 ghost use Rattle.crsm_shell.specs.Taking.{heard_in, turn_of};
 
 /// States that a suspicion includes the replica itself, and that its replicas can be the members of the next epoch. It

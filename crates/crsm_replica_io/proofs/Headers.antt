@@ -1,10 +1,10 @@
 -- An outbox with one more datagram, and with one sent.
-use Rattle.std.proofs.Common.{◌≡◌, ◌∙◌, ℕ, ◌+◌, ◌<◌, ◌≤◌, List, [], ◌∷◌, ◌++◌, length, take, drop, get_or, zero, suc, refl, sym, ap, ap₂, arith, length-drop, length-append}
+use Rattle.std.proofs.Common.{◌≡◌, ◌∙◌, ℕ, ◌+◌, ◌<◌, ◌≤◌, List, [], ◌∷◌, ◌++◌, length, take, drop, get_or, zero, suc, refl, sym, ap, ap₂, arith, length-drop, length-append, length-take, subst}
 use Rattle.std.proofs.Math.Seq.{take-length}
 use Rattle.std.proofs.lemmas.List.{take_more, take-append-le, drop-append-le, drop-drop, length-take-le}
-use Rattle.crsm_port.specs.Meaning.{Packet}
+use Rattle.crsm_port.specs.Meaning.{IsShort, Packet}
 use Rattle.crsm_replica_io.specs.Outgoing.{bytes_in}
-use Rattle.crsm_replica_io.specs.Headers.{packets_of, size_of}
+use Rattle.crsm_replica_io.specs.Headers.{AreShort, packets_of, size_of}
 use Rattle.crsm_replica_io.specs.declared.outbox.Header.{Header}
 
 -- ---- how many
@@ -54,7 +54,26 @@ added_size headers after l text long bytes size more behind len =
     let lengths = ap length behind ∙ length-append text bytes in
     omega (arith, size, len, sizes, lengths)
 
+short_behind : (headers : List Header) (l : Header) → AreShort headers → l.len ≤ 8183 → AreShort (headers ++ l ∷ [])
+short_behind [] l short le = (le, tt)
+short_behind (k ∷ headers) l short le = (short.0, short_behind headers l short.1 le)
+
+pub added_short : (headers after : List Header) (l : Header) → AreShort headers → after ≡ headers ++ l ∷ [] → l.len ≤ 8183 → AreShort after
+added_short headers after l short more le = subst AreShort (sym more) (short_behind headers l short le)
+
 -- ---- one more is sent
+
+short_at : (headers : List Header) (i : ℕ) (d : Header) → AreShort headers → i < length headers → (get_or headers i d).len ≤ 8183
+short_at [] i d short within = absurd (omega (arith, within))
+short_at (k ∷ headers) zero d short within = short.0
+short_at (k ∷ headers) (suc i) d short within = short_at headers i d short.1 (omega (arith, within))
+
+-- its bytes are as few
+pub short_piece : (headers : List Header) (i : ℕ) (d : Header) (rest bytes : List ℕ) → AreShort headers → i < length headers → bytes ≡ take (get_or headers i d).len rest → IsShort bytes
+short_piece headers i d rest bytes short within piece =
+    let le = short_at headers i d short within in
+    let long = ap length piece ∙ length-take (get_or headers i d).len rest in
+    omega (arith, le, long)
 
 apart : (headers : List Header) (l : Header) (text : List ℕ) → packets_of (headers ++ l ∷ []) text ≡ packets_of headers text ++ (record { address = l.to; bytes = take l.len (drop (size_of headers) text) }) ∷ []
 apart [] l text = refl

@@ -1,3 +1,4 @@
 mod Headers
+pub mod Lengths
 mod Receiving
 mod Sending

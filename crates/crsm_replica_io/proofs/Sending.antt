@@ -5,9 +5,9 @@ use Rattle.crsm_base.specs.declared.memory.Failed.{Failed}
 use Rattle.crsm_port_faults.specs.Counts.{Rose}
 use Rattle.crsm_port_faults.specs.Plan.{Plan, spent}
 use Rattle.crsm_port_faults.specs.Failing.{one_less}
-use Rattle.crsm_port.specs.Meaning.{Framing, Meaning, Packet, Traffic, Sends, with_sent}
-use Rattle.crsm_replica_io.proofs.Headers.{one_header}
-use Rattle.crsm_replica_io.specs.Headers.{packets_of, size_of}
+use Rattle.crsm_port.specs.Meaning.{Framing, IsShort, Meaning, Packet, Traffic, Sends, with_sent}
+use Rattle.crsm_replica_io.proofs.Headers.{one_header, short_piece}
+use Rattle.crsm_replica_io.specs.Headers.{AreShort, packets_of, size_of}
 use Rattle.crsm_replica_io.specs.declared.outbox.Header.{Header}
 use Rattle.crsm_replica_io.specs.Outgoing.{Lacks, GoesOut, GoesWhole, SendsAll, bytes_in, with_all_sent}
 
@@ -72,6 +72,7 @@ pub nothing_sent : (m : Meaning) → SendsAll [] m m
 nothing_sent m = record {
   faults = refl;
   empties = refl;
+  too_long = refl;
   later = omega arith;
   framing = refl;
   borrowed_as = refl;
@@ -98,10 +99,11 @@ module _ {T : Type 0} (packets : List Packet) (d : Packet) (a b c : Meaning) (s 
     traffic = r.unsent ∙ s.out.traffic;
   }
 
-  pub one_more : (result : Result T Failed) → Sends d.address d.bytes b c result → SendsAll (packets ++ d ∷ []) a c
-  one_more result r = record {
+  pub one_more : (result : Result T Failed) → IsShort d.bytes → Sends d.address d.bytes b c result → SendsAll (packets ++ d ∷ []) a c
+  one_more result short r = record {
     faults = r.faults ∙ s.faults;
     empties = r.empties ∙ s.empties;
+    too_long = r.too_long short ∙ s.too_long;
     later = let one = s.later in let two = r.later in omega arith;
     framing = r.framing ∙ s.framing;
     borrowed_as = r.borrowed_as ∙ s.borrowed_as;
@@ -126,8 +128,8 @@ module _ {T : Type 0} (packets : List Packet) (d : Packet) (a b c : Meaning) (s 
       by_result (Err e) r = lost_out e r
 
 pub one_header_more : {T : Type 0} (headers : List Header) (i : ℕ) (k : Header) (text rest bytes : List ℕ) (a b c : Meaning) (result : Result T Failed) → i < length headers
-    → rest ≡ drop (size_of (take i headers)) text → bytes ≡ take (get_or headers i k).len rest → SendsAll (packets_of (take i headers) text) a b → Sends (get_or headers i k).to bytes b c result
+    → rest ≡ drop (size_of (take i headers)) text → bytes ≡ take (get_or headers i k).len rest → AreShort headers → SendsAll (packets_of (take i headers) text) a b → Sends (get_or headers i k).to bytes b c result
     → SendsAll (packets_of (take (i + 1) headers) text) a c
-one_header_more headers i k text rest bytes a b c result within behind piece before r =
+one_header_more headers i k text rest bytes a b c result within behind piece short before r =
     subst (λ packets. SendsAll packets a c) (sym (one_header headers i k text rest bytes within behind piece))
-    (one_more (packets_of (take i headers) text) (record { address = (get_or headers i k).to; bytes = bytes }) a b c before result r)
+    (one_more (packets_of (take i headers) text) (record { address = (get_or headers i k).to; bytes = bytes }) a b c before result (short_piece headers i k rest bytes short within piece) r)

@@ -45,6 +45,7 @@ pub record Receives (size : ℕ) (buffer : List ℕ) (old new : Meaning) (result
   pub no_fault : (IsErrOf result PortFault → ⊥) → new.faults ≡ old.faults
   pub first : (t u : Traffic) → old.traffic ≡ Some t → new.traffic ≡ Some u → IfOk result (IsFirst size buffer old.framing t u)
   pub none_taken : IsErrOf result PortFault → new.traffic ≡ old.traffic
+  pub too_long : new.too_long ≡ old.too_long
   pub told : IsSome old.traffic ↔ IsSome new.traffic
   pub framing : new.framing ≡ old.framing
   pub borrowed_as : new.borrowed_as ≡ old.borrowed_as

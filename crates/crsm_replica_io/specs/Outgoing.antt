@@ -70,6 +70,7 @@ pub record GoesWhole (packets : List Packet) (p : Plan) (old new : Meaning) : Ty
 pub record SendsAll (packets : List Packet) (old new : Meaning) : Type 0 where
   pub faults : new.faults ≡ old.faults
   pub empties : new.empties ≡ old.empties
+  pub too_long : new.too_long ≡ old.too_long
   pub later : old.losses ≤ new.losses
   pub framing : new.framing ≡ old.framing
   pub borrowed_as : new.borrowed_as ≡ old.borrowed_as

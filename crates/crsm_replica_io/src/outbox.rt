@@ -5,7 +5,7 @@ ghost use Rattle.std.specs.List.{AllByRecursion};
 ghost use Rattle.crsm_base.specs.Messages.{FitsDatagram, datagram_bytes};
 ghost use Rattle.crsm_port.specs.Meaning.{Reserves};
 ghost use Rattle.crsm_replica_io.specs.Outgoing.{FitsSend, SendsAll, address_of, bytes_in, sent_packets, packets_for};
-ghost use Rattle.crsm_replica_io.specs.Headers.{packets_of, size_of};
+ghost use Rattle.crsm_replica_io.specs.Headers.{AreShort, packets_of, size_of};
 
 use crsm_base::{Bytes, Datagram, NoMemory, Send, To};
 use crsm_port::Port;
@@ -30,16 +30,16 @@ pub struct Outbox {
 }
 
 impl Model for Outbox {
-    ghost use Rattle.std.specs.Prelude.{◌≡◌, List, length};
+    ghost use Rattle.std.specs.Prelude.{List};
     ghost use Rattle.crsm_port.specs.Meaning.{Packet};
 
     ghost Value = { List Packet };
 
-    ghost use Rattle.crsm_replica_io.specs.Headers.{packets_of, size_of};
+    ghost use Rattle.crsm_replica_io.specs.Headers.{IsKept, packets_of};
 
     ghost view = { λ o. packets_of o.headers.items o.text };
 
-    ghost invariant = { λ o. size_of o.headers.items ≡ length o.text };
+    ghost invariant = { λ o. IsKept o.headers.items o.text };
 }
 
 impl Outbox {
@@ -112,7 +112,7 @@ impl Outbox {
         port.reserve(self.headers.len() as u64, bytes)
     }
 
-    /// Sends them all. A datagram that the port fails to send is lost, as any packet may be.
+    /// Sends them all. A datagram that the port fails to send is lost, as any packet may be; none is too long for a port.
     pub fn send_all<P: Port>(&self, port: &mut P)
         ensures { SendsAll self.now (P.meaning port.old) (P.meaning port.new) }
     {
@@ -140,7 +140,8 @@ fn write(datagram: &Datagram, text: &mut Bytes) -> Result<usize, NoMemory>
 }
 
 fn send_headers<P: Port>(headers: &[Header], text: &[u8], port: &mut P)
-    requires { size_of headers.now ≡ length text.now }
+    requires size { size_of headers.now ≡ length text.now }
+    requires short { AreShort headers.now }
     ensures { SendsAll (packets_of headers.now text.now) (P.meaning port.old) (P.meaning port.new) }
 {
     let mut rest = text;

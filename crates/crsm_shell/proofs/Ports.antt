@@ -41,6 +41,7 @@ module _ (packets : List Packet) (old mid new : Meaning) (same : mid ≡ record 
   sends_packets s = record {
     faults = s.faults ∙ ap (λ (m : Meaning). m.faults) same;
     empties = s.empties ∙ ap (λ (m : Meaning). m.empties) same;
+    too_long = s.too_long ∙ ap (λ (m : Meaning). m.too_long) same;
     later = subst (λ (k : ℕ). k ≤ new.losses) (ap (λ (m : Meaning). m.losses) same) s.later;
     framing = s.framing ∙ ap (λ (m : Meaning). m.framing) same;
     borrowed_as = s.borrowed_as ∙ ap (λ (m : Meaning). m.borrowed_as) same;

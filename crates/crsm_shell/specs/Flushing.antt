@@ -32,6 +32,7 @@ GoesWell (Some p) = p.good ≡ None
 pub record SendsPackets (packets : List Packet) (old new : PortMeaning) : Type 0 where
   pub faults : new.faults ≡ old.faults
   pub empties : new.empties ≡ old.empties
+  pub too_long : new.too_long ≡ old.too_long
   pub later : old.losses ≤ new.losses
   pub framing : new.framing ≡ old.framing
   pub borrowed_as : new.borrowed_as ≡ old.borrowed_as

@@ -1,5 +1,6 @@
 -- The input that a shell takes, and its step.
-use Rattle.std.specs.Prelude.{◌≡◌, ℕ, List, [], ◌∷◌, ◌++◌, length, take, Option, Some, None, option_and_then, Result, Ok, Err}
+use Rattle.std.specs.Prelude.{◌≡◌, ◌<◌, ◌^◌, ℕ, List, [], ◌∷◌, ◌++◌, length, take, Option, Some, None, option_and_then, Result, Ok, Err}
+use Rattle.std.specs.List.{AllByRecursion}
 use Rattle.crsm_base.specs.MessageReading.{datagram_of}
 use Rattle.crsm_base.specs.declared.datagram.Datagram.{Datagram}
 use Rattle.crsm_base.specs.declared.datagram.Datagram.TheVariants as datagram
@@ -99,3 +100,13 @@ Reads old new (Ok t) = Gives old new t.reading
 Reads old new (Err errors.Failed) = new ≡ old
 Reads old new (Err errors.PortFault) = new ≡ old
 Reads old new (Err _) = (reading : ℕ) × Gives old new reading
+
+-- bytes are below 256
+abbrev pub AreBytes : List ℕ → Type 0
+AreBytes bytes = AllByRecursion (λ b. b < 256) bytes
+
+-- What was taken is bytes, in this buffer, and a reading of 64 bits, also where memory ran out behind them.
+abbrev pub IsTyped : List ℕ → Option Readings → Option Readings → Result TurnResult TurnError → Type 0
+IsTyped buffer old new (Ok t) = (t.reading < 2 ^ 64) × AreBytes buffer
+IsTyped buffer old new (Err errors.NoMemory) = (reading : ℕ) × Gives old new reading × (reading < 2 ^ 64) × AreBytes buffer
+IsTyped buffer old new (Err _) = Unit {0}

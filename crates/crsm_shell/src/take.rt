@@ -5,7 +5,7 @@ ghost use Rattle.std.specs.List.{AllByRecursion};
 ghost use Rattle.crsm_core.specs.Core.{FitsSent};
 ghost use Rattle.crsm_shell.specs.Shell.{ShellStands, WhereStands};
 ghost use Rattle.crsm_shell.specs.Errors.{is_lasting};
-ghost use Rattle.crsm_shell.specs.Taking.{MakesStep, Reads, Receives, Takes, TakesStep, heard_in, most_received, turn_of, step_at};
+ghost use Rattle.crsm_shell.specs.Taking.{AreBytes, IsTyped, MakesStep, Reads, Receives, Takes, TakesStep, heard_in, most_received, turn_of, step_at};
 ghost use Rattle.crsm_replica_io.specs.Input.{IsWithin};
 ghost use Rattle.crsm_shell.specs.Words.{buffer_of, disk_of, gate_of, peers_of, pending_of, has_failed};
 
@@ -40,6 +40,7 @@ impl<D: Disk> Shell<D> {
 
         // One reading; the input from the port, if any; the disk is not called.
         ensures clock { Reads (C.readings clock.old) (C.readings clock.new) result }
+        ensures typed { IsTyped (buffer_of self.new) (C.readings clock.old) (C.readings clock.new) result }
         ensures port { Takes what (buffer_of self.new) (P.meaning port.old) (P.meaning port.new) result }
         ensures disk { disk_of self.new ≡ disk_of self.old }
         ensures gate { gate_of self.new ≡ gate_of self.old }
@@ -60,6 +61,7 @@ impl<D: Disk> Shell<D> {
                 return Err(why);
             }
         };
+        are_bytes(&self.buffer);
         // A receive may have waited: an earlier reading would be stale.
         let reading = clock.now();
         let (made, size) = self.step(&taken, reading)?;
@@ -97,6 +99,11 @@ impl<D: Disk> Shell<D> {
         Ok((made, self.body.as_slice().len() as u64 - before))
     }
 }
+
+/// States that the bytes of a buffer are bytes. It runs no code.
+fn are_bytes(buffer: &[u8])
+    ensures { AreBytes buffer.now }
+{}
 
 /// Takes the wanted input.
 fn receive<P: Port>(

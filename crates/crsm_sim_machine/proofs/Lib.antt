@@ -3,7 +3,6 @@ mod Cuts
 mod Disks
 mod PacketPorts
 mod Sendings
-mod Lengths
 mod Stops
 mod Turns
 mod Ups

@@ -44,6 +44,7 @@ came l from bytes empties losses before after len is size copied = record {
   not_empty = tt;
   taken = λ t u told new. takes from bytes before after len size copied t u (ap (λ (k : Slot). Some (traffic_of k)) (sym is) ∙ told) new;
   untaken = tt;
+  too_long = refl;
   told = (λ _. refl, λ _. refl);
   framing = refl;
   borrowed_as = refl;

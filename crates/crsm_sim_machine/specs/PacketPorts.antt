@@ -12,4 +12,4 @@ traffic_of (slot.Waits from bytes) = record { waiting = (record { address = from
 traffic_of (slot.Taken from bytes) = record { waiting = []; taken = (record { address = from; bytes = bytes.now }) ∷ []; sent = [] }
 
 abbrev pub meaning_of : PacketPort → Meaning
-meaning_of p = record { traffic = Some (traffic_of p.slot); framing = plain; plan = None; faults = 0; losses = p.losses; empties = p.empties; borrowed_as = None }
+meaning_of p = record { traffic = Some (traffic_of p.slot); framing = plain; plan = None; faults = 0; losses = p.losses; empties = p.empties; too_long = 0; borrowed_as = None }

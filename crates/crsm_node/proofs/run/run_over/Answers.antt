@@ -14,7 +14,7 @@ use Rattle.crsm_spec.specs.Replica.{Replica}
 use Rattle.crsm_shell.specs.Shell.{HasLog, ShellStands}
 use Rattle.crsm_shell.specs.Words.{disk_of, has_failed, peers_of}
 use Rattle.crsm_shell.specs.declared.shell.Shell.{Shell}
-use Rattle.crsm_node.specs.Kept.{HasBehind}
+use Rattle.crsm_node.specs.Kept.{HasBehind, HasLogOf}
 use Rattle.crsm_node.specs.Order.{peers_in}
 use Rattle.crsm_node.specs.Sent.{AreAddressed}
 use Rattle.crsm_node.specs.Serving.{Carries}
@@ -71,6 +71,10 @@ returns-in-Err-boot-clause-runs g c =
 file_has : {D : Type 0} {g : _} (shell : Shell D g) (m : Meaning) (kept : Log) (r : Replica) (steps : List Draft) → ShellStands shell m kept r steps → IsTrue m.honest → HasBehind m.seen [] m.seen
 unfolding ShellStands HasLog
 file_has shell m kept r steps s honest = (s.file honest).whole ∙ ap found (sym (append-nil (bodies_of m.seen)))
+
+log_has : {D : Type 0} {g : _} (shell : Shell D g) (m : Meaning) (r : Replica) → ShellStands shell m r.log r [] → IsTrue m.honest → HasLogOf r m.seen
+unfolding ShellStands
+log_has shell m r s honest = s.file honest
 
 same_disk : {D : Type 0} {g : _} (s s' : Shell D g) → s' ≡ s → disk_of s' ≡ disk_of s
 same_disk s s' is = ap disk_of is
@@ -146,13 +150,23 @@ returns-in-Ok-clause-runs g c =
           (elim t.why [
             | inl w ↦
                 inr (runs_life order log [] [] old n o o a z before after had has faults more (Err node_errors.WriteFault) c.end_of.result b.bodies c.logs_are_one.ensures f.goes.honest f.goes.fill f.goes.later e.goes claimed left e.bodies kept
-                (λ honest. e.added honest log kept) e.left (lived_still order log before after a z o (Err node_errors.WriteFault) failed.2 failed.3 (λ q. tt) refl has_none only) (c.end_of.ensures ∙ ap end_of w.0)
+                (λ honest. e.added honest log kept) e.left (lived_still order log before after a z o (Err node_errors.WriteFault) failed.2 failed.3 (λ q. tt) refl has_none only (log_has s o r boots.stands)) (c.end_of.ensures ∙ ap end_of w.0)
                 (opening_prefix order log b.bodies had has t.wrote) (w.1, refl))
             | inr memory ↦
                 inr (runs_life order log [] [] old n o o a z before after had has faults more (Err node_errors.NoMemory) c.end_of.result b.bodies c.logs_are_one.ensures f.goes.honest f.goes.fill f.goes.later e.goes claimed left e.bodies kept
-                (λ honest. e.added honest log kept) e.left (lived_still order log before after a z o (Err node_errors.NoMemory) failed.2 failed.3 (λ q. tt) refl has_none only) (c.end_of.ensures ∙ ap end_of memory)
+                (λ honest. e.added honest log kept) e.left (lived_still order log before after a z o (Err node_errors.NoMemory) failed.2 failed.3 (λ q. tt) refl has_none only (log_has s o r boots.stands)) (c.end_of.ensures ∙ ap end_of memory)
                 (opening_memory order log b.bodies had has t.wrote) tt)
           ])
+    ]
+
+pub returns-in-Ok-clause-too_long : goal.returns-in-Ok-clause-too_long
+returns-in-Ok-clause-too_long g c =
+    let order = c.args.order.now in
+    let e = c.in-Ok.ensures in
+    let log = e.found.0 in
+    elim (c.run_shell-ended.ensures (booted order log) (e.boots log e.found.1).stands (sym (boot_mine order.me order.n log))) [
+      | inl served ↦ served.serves.carries.too_long
+      | inr failed ↦ ap (λ (m : PortMeaning). m.too_long) failed.2
     ]
 
 pub returns-in-Ok-clause-framing : goal.returns-in-Ok-clause-framing

@@ -11,12 +11,13 @@ use Rattle.crsm_spec.specs.Log.{Log}
 use Rattle.crsm_spec.specs.Node.{Turn, outputs_from}
 use Rattle.crsm_spec.specs.Replica.{Replica}
 use Rattle.crsm_replica_detector.specs.Watching.{Watch}
-use Rattle.crsm_replica_detector.specs.Wished.{replica_after, watch_after}
+use Rattle.crsm_spec_process.specs.Turns.{replica_after}
+use Rattle.crsm_replica_detector.specs.Wished.{watch_after}
 use Rattle.crsm_shell.specs.Shell.{HasLog, ShellStands}
 use Rattle.crsm_shell.specs.Words.{disk_of, has_failed}
 use Rattle.crsm_shell.specs.declared.shell.Shell.{Shell}
 use Rattle.crsm_node.specs.Devices.{node_of}
-use Rattle.crsm_node.specs.Kept.{HasBehind}
+use Rattle.crsm_node.specs.Kept.{HasBehind, HasLogOf}
 use Rattle.crsm_node.specs.Serving.{Serves}
 use Rattle.crsm_node.specs.Steps.{FailsToTake}
 use Rattle.crsm_node.specs.declared.pending.PendingTurns.{PendingTurns}
@@ -32,6 +33,10 @@ use Rattle.crsm_node.proofs.serving.serve.Goals.{then-ends_group+in_ok-keep_grou
 file_has : {D : Type 0} {g : _} (shell : Shell D g) (m : DiskMeaning) (kept : Log) (r : Replica) (steps : List Draft) → ShellStands shell m kept r steps → IsTrue m.honest → HasBehind m.seen [] m.seen
 unfolding ShellStands HasLog
 file_has shell m kept r steps s honest = (s.file honest).whole ∙ ap found (sym (append-nil (bodies_of m.seen)))
+
+log_has : {D : Type 0} {g : _} (shell : Shell D g) (m : DiskMeaning) (r : Replica) → ShellStands shell m r.log r [] → IsTrue m.honest → HasLogOf r m.seen
+unfolding ShellStands
+log_has shell m r s honest = s.file honest
 
 some_last : (ts : List (Turn × ℕ)) (t : Turn × ℕ) → ts ++ t ∷ [] ≢ []
 some_last [] t none = cc
@@ -66,7 +71,7 @@ loop-turn-init g c =
       well = well;
       stage = λ r w stands watches.
           begins g.D.Disk.meaning g.P.Port.meaning g.C.Clock.readings g.O.Sink.written g.O.Sink.faults r w shell c.args.detector.now c.args.port.now c.args.clock.now c.args.sheet.now c.new-pending.result.lines c.args.turns
-          (file_has shell m r.log r [] stands) (λ honest. (shell.log.sound honest (shell.well well)).durable) stands watches c.new-pending.ensures;
+          (file_has shell m r.log r [] stands) (λ honest. (shell.log.sound honest (shell.well well)).durable) (log_has shell m r stands) stands watches c.new-pending.ensures;
     }
 
 pub returns-in_err-keep_group-in-Ok-clause-serves : goal.returns-in_err-keep_group-in-Ok-clause-serves
@@ -85,6 +90,7 @@ returns-in_err-keep_group-in-Ok-clause-serves g c r w stands watches =
     serves_err r w c.args.turns _ _ c.from_residual.result p.0 c.in_err-keep_group-in-Ok.field-0.0 p.1 p.2
     (keep_ends g.D.Disk.meaning g.P.Port.meaning g.C.Clock.readings g.O.Sink.written g.O.Sink.faults r w _ c.take_turn.new.shell c.keep_group.new.shell c.take_turn.new.detector c.take_turn.new.port c.keep_group.new.port
     c.take_turn.new.clock c.loop-turn.sheet c.keep_group.new.sheet c.take_turn.new.pending.lines s.groups (s.ts ++ k.t ∷ []) h c.keep_group.ensures.goes c.keep_group.ensures.peers c.keep_group.ensures.later
+    (λ well honest. (c.keep_group.new.shell.log.sound honest (c.keep_group.new.shell.well well)).durable)
     c.args.turns (some_last s.ts k.t) (groups_with s.groups (s.ts ++ k.t ∷ []) (s.shut below) (λ _. group_of s.ts k.t s.is_open)) (count_with (kept_turns s.groups) s.ts k.t c.args.turns few)
     (Err c.in_err-keep_group-in-Ok.field-0.0) (not_ok c.in_err-keep_group-in-Ok.field-0.0) e)
 
@@ -125,6 +131,7 @@ loop-turn-preserved g c =
             let many = c.pending.ensures.steps q.log (replica_after r after) steps h.stands ∙ count_outputs q (s.ts ++ k.t ∷ []) in
             let kept = kept_well g.D.Disk.meaning g.P.Port.meaning g.C.Clock.readings g.O.Sink.written g.O.Sink.faults r w start c.take_turn.new.shell v.keep_group.new.shell c.take_turn.new.detector c.take_turn.new.port v.keep_group.new.port
             c.take_turn.new.clock c.loop-turn.sheet v.keep_group.new.sheet c.take_turn.new.pending.lines s.groups (s.ts ++ k.t ∷ []) h v.keep_group.ensures.goes v.keep_group.ensures.peers v.keep_group.ensures.later
+            (λ well honest. (v.keep_group.new.shell.log.sound honest (v.keep_group.new.shell.well well)).durable)
             v.keep_group.new.pending.lines v.in_ok-keep_group-in-Ok.ensures.cleared e.0 e.1 in
             joined (Next r w) _ _ _ _ _ _ _ _ v.shell-is v.port-is v.sheet-is v.pending-is
             (stage_keeps r w start now _ c.loop-turn.pending.lines v.keep_group.new.pending.lines turn c.args.turns s below k.t kept.0 kept.1
@@ -193,6 +200,7 @@ returns-in_err-keep_group-in-Err-clause-serves g c r w stands watches =
     serves_err r w c.args.turns start _ c.from_residual-in_err-keep_group-in-Err.result p.0 c.in_err-keep_group-in-Err.field-0.0 p.1 p.2
     (keep_ends g.D.Disk.meaning g.P.Port.meaning g.C.Clock.readings g.O.Sink.written g.O.Sink.faults r w start shell c.keep_group-then-pending-gt0.new.shell c.take_turn.new.detector c.take_turn.new.port c.keep_group-then-pending-gt0.new.port
     c.take_turn.new.clock c.loop-turn.sheet c.keep_group-then-pending-gt0.new.sheet c.take_turn.new.pending.lines s.groups s.ts h c.keep_group-then-pending-gt0.ensures.goes c.keep_group-then-pending-gt0.ensures.peers c.keep_group-then-pending-gt0.ensures.later
+    (λ well honest. (c.keep_group-then-pending-gt0.new.shell.log.sound honest (c.keep_group-then-pending-gt0.new.shell.well well)).durable)
     c.args.turns some (groups_with s.groups s.ts (s.shut below) (group_if s.ts s.is_open)) (omega (arith, count, below)) (Err c.in_err-keep_group-in-Err.field-0.0) (not_ok c.in_err-keep_group-in-Err.field-0.0) e)
 
 pub returns-in-Err-clause-serves : goal.returns-in-Err-clause-serves
@@ -228,6 +236,7 @@ returns-in-Err-clause-serves g c r w stands watches =
           (serves_err r w c.args.turns start _ (Err c.in-Err.why) c.in-Err.why errors.PortFault refl is
           (port_ends_kept g.D.Disk.meaning g.P.Port.meaning g.C.Clock.readings g.O.Sink.written g.O.Sink.faults r w start shell v.keep_group-then-pending-gt0.new.shell c.take_turn.new.detector c.take_turn.new.port v.keep_group-then-pending-gt0.new.port
           c.take_turn.new.clock c.loop-turn.sheet v.keep_group-then-pending-gt0.new.sheet c.take_turn.new.pending.lines s.groups s.ts h v.keep_group-then-pending-gt0.ensures.goes v.keep_group-then-pending-gt0.ensures.peers v.keep_group-then-pending-gt0.ensures.later
+          (λ well honest. (v.keep_group-then-pending-gt0.new.shell.log.sound honest (v.keep_group-then-pending-gt0.new.shell.well well)).durable)
           c.args.turns some (groups_with s.groups s.ts (s.shut below) (group_if s.ts s.is_open)) few (rose f) e.0 e.1))
       | else-is_port_fault v ↦
           joined Ends _ _ _ _ _ _ _ _ v.shell-is v.port-is v.sheet-is v.pending-is

@@ -46,7 +46,7 @@ returns-in_err-turned-clause-failed g c kept r steps s me w watches same =
     let wishes = c.in_ok-what.ensures.wished r.me w (subst (λ (k : ℕ). DetectorStands c.args.detector.now k w) same watches) r.n r.log (c.state.ensures kept r steps s) in
     if_err (FailsToTake c.take.new.self m c.next.new.self ahead later old new lines lines kept r steps w) _ p.0 _ p.1 p.2
     (take_fails c.take.new.self m c.next.new.self ahead later lines kept r steps w (buffer_of c.take.new.self) c.inputs_are_wished.ensures.fulfils
-    c.in_ok-what.what wishes.wished old between new c.poll_soon.ensures c.in_err-turned.field-0.0 c.in_err-turned.ensures.port c.in_err-turned.ensures.clock
+    c.in_ok-what.what wishes.wished old between new c.poll_soon.ensures c.in_err-turned.field-0.0 c.in_err-turned.ensures.port c.in_err-turned.ensures.clock c.in_err-turned.ensures.typed c.has_members.ensures
     (λ is. both (has_failed c.args.shell.now) (c.in_err-turned.ensures.failed.0 (ap stopping is)) (not_failed c.args.shell.now (g.D.Disk.meaning (disk_of c.args.shell.now)) kept r steps s))
     (λ is. c.in_err-turned.ensures.usable (ap stopping is) kept r steps s) wishes.stands)
 
@@ -65,7 +65,7 @@ returns-in_err-add-clause-failed g c kept r steps s me w watches same =
     (inr (
       (turn_of (buffer_of c.take.new.self) t.taken, t.reading),
       took_as_wished c.inputs_are_wished.ensures.fulfils r w c.in_ok-what.what wishes.wished (buffer_of c.take.new.self) ahead later old between new c.poll_soon.ensures
-          t.taken t.reading c.in_ok-turned.ensures.port c.in_ok-turned.ensures.clock,
+          t.taken t.reading c.in_ok-turned.ensures.typed.1 c.has_members.ensures c.in_ok-turned.ensures.typed.0 c.in_ok-turned.ensures.port c.in_ok-turned.ensures.clock,
     ))
 
 pub returns-clause-took : goal.returns-clause-took
@@ -81,7 +81,7 @@ returns-clause-took g c kept r steps s me w watches same =
     let what = c.in_ok-what.what in
     let wishes = c.in_ok-what.ensures.wished r.me w (subst (λ (k : ℕ). DetectorStands c.args.detector.now k w) same watches) r.n r.log (c.state.ensures kept r steps s) in
     let made = c.in_ok-turned.ensures.stands kept r steps s in
-    let took = took_as_wished c.inputs_are_wished.ensures.fulfils r w what wishes.wished buffer ahead later old between new c.poll_soon.ensures t.taken t.reading c.in_ok-turned.ensures.port c.in_ok-turned.ensures.clock in
+    let took = took_as_wished c.inputs_are_wished.ensures.fulfils r w what wishes.wished buffer ahead later old between new c.poll_soon.ensures t.taken t.reading c.in_ok-turned.ensures.typed.1 c.has_members.ensures c.in_ok-turned.ensures.typed.0 c.in_ok-turned.ensures.port c.in_ok-turned.ensures.clock in
     let noted : DetectorStands c.note.new.detector r.me (with_turn (turn_of buffer t.taken) (heard_at t.received t.reading (chosen what w))) = c.note.ensures r.me (chosen what w) wishes.stands buffer in
     let heard : DetectorStands c.note.new.detector r.me (watched w (turn_of buffer t.taken, t.reading)) =
     subst (λ (v : Watch). DetectorStands c.note.new.detector r.me v) (c.turns_are_watched.ensures w what (turn_of buffer t.taken) t.reading (c.inputs_are_wished.ensures.fulfils what _ buffer between new t.taken c.in_ok-turned.ensures.port))

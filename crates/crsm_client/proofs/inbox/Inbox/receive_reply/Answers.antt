@@ -12,7 +12,7 @@ returns-in_err-reply_in-in-Ok-Datagram-clause-brings g c =
     c.recv.new.buf (drop (length c.recv.new.buf) c.args.self.now.buffer.items) c.behind_mark-bytes.ensures c.as_slice.ensures c.args.self.now.marked c.deref.ensures.value
     (c.recv.auto.buf ∙ c.deref_mut.ensures.len) in
     starves c.args.self.now.cluster c.in-Ok-Datagram.from c.in-Ok-Datagram.len _ _ _ c.recv.new.buf c.behind_mark-bytes.result.now
-    (rw (c.in-Ok-Datagram.is, c.in-Ok-Datagram.field-0-is) at c.recv.ensures) room own c.args.to c.args.command.now c.from_residual.result c.from_residual.ensures.1
+    (rw (c.in-Ok-Datagram.is, c.in-Ok-Datagram.field-0-is) at c.recv.ensures.receives) room own c.args.to c.args.command.now c.from_residual.result c.from_residual.ensures.1
 
 pub returns-in_ok-reply_in-in-Ok-Datagram-clause-brings :
     goal.returns-in_ok-reply_in-in-Ok-Datagram-clause-brings
@@ -23,9 +23,9 @@ returns-in_ok-reply_in-in-Ok-Datagram-clause-brings g c =
     c.recv.new.buf (drop (length c.recv.new.buf) c.args.self.now.buffer.items) c.behind_mark-bytes.ensures c.as_slice.ensures c.args.self.now.marked c.deref.ensures.value
     (c.recv.auto.buf ∙ c.deref_mut.ensures.len) in
     brings c.args.self.now.cluster c.in-Ok-Datagram.from c.in-Ok-Datagram.len _ _ _ c.recv.new.buf c.behind_mark-bytes.result.now
-    (rw (c.in-Ok-Datagram.is, c.in-Ok-Datagram.field-0-is) at c.recv.ensures) room own c.args.to c.args.command.now c.in_ok-reply_in-in-Ok-Datagram.field-0
+    (rw (c.in-Ok-Datagram.is, c.in-Ok-Datagram.field-0-is) at c.recv.ensures.receives) room own c.args.to c.args.command.now c.in_ok-reply_in-in-Ok-Datagram.field-0
     c.in_ok-reply_in-in-Ok-Datagram.ensures
 
 pub returns-in-Ok-Nothing-clause-brings : goal.returns-in-Ok-Nothing-clause-brings
 returns-in-Ok-Nothing-clause-brings g c =
-    brings_nothing c.args.self.now.cluster c.args.to c.args.command.now _ _ _ _ (rw (c.in-Ok-Nothing.is, c.in-Ok-Nothing.field-0-is) at c.recv.ensures)
+    brings_nothing c.args.self.now.cluster c.args.to c.args.command.now _ _ _ _ (rw (c.in-Ok-Nothing.is, c.in-Ok-Nothing.field-0-is) at c.recv.ensures.receives)

@@ -12,8 +12,8 @@ returns g c =
     let old : Meaning = g.P.Port.meaning c.args.port.now in
     let new : Meaning = g.P.Port.meaning c.reserve.new.self in
     let many : c.len.result ≡ length (packets_of headers text) = omega (arith, c.len.ensures, c.self.inside.headers.ok, count headers text) in
-    let bytes : length c.as_slice.result.now ≡ bytes_in (packets_of headers text) = ap length c.as_slice.ensures ∙ sym (size_in headers text c.self.invariant) in
+    let bytes : length c.as_slice.result.now ≡ bytes_in (packets_of headers text) = ap length c.as_slice.ensures ∙ sym (size_in headers text c.self.invariant.size) in
     let inside : Reserves (length (packets_of headers text)) (bytes_in (packets_of headers text)) old new c.reserve.result =
     subst (λ (n : ℕ). Reserves n (bytes_in (packets_of headers text)) old new c.reserve.result) many
-    (subst (λ (n : ℕ). Reserves c.len.result n old new c.reserve.result) bytes c.reserve.ensures) in
+    (subst (λ (n : ℕ). Reserves c.len.result n old new c.reserve.result) bytes c.reserve.ensures.reserves) in
     subst (λ ps. Reserves (length ps) (bytes_in ps) old new c.reserve.result) c.self.view_is inside

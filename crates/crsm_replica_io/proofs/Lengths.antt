@@ -14,6 +14,7 @@ use Rattle.crsm_base.specs.declared.datagram.Datagram.TheVariants as datagram
 use Rattle.crsm_base.specs.Limits.{part_bytes, most_parts, most_last_bytes}
 use Rattle.crsm_base.specs.Spelling.{u8_bytes, u16_bytes, u32_bytes, u64_bytes, stamp_bytes, val_bytes, FitsVal, command_bytes, FitsCommand, entry_bytes, answer_bytes, FitsAnswer, outcome_bytes, FitsOutcome, members_bytes}
 use Rattle.crsm_base.specs.Messages.{payload_bytes, FitsPayload, datagram_bytes, FitsDatagram, part_most}
+use Rattle.crsm_port.specs.Meaning.{IsShort}
 use Rattle.crsm_base.proofs.Sizes.{u64_long, entry_short}
 use Rattle.crsm_base.proofs.MembersLemmas.{members_le}
 
@@ -66,8 +67,8 @@ part_short index count = go (nat_lt (index + 1) count) (count == most_parts)
     go false true = omega arith
     go false false = omega arith
 
--- no datagram takes more than this
-pub datagram_short : (d : Datagram) → FitsDatagram d → length (datagram_bytes d) ≤ 8192
+-- each datagram is short enough for each port
+pub datagram_short : (d : Datagram) → FitsDatagram d → IsShort (datagram_bytes d)
 unfolding datagram_bytes members_bytes
 datagram_short (datagram.Frame from to epoch seq p) f =
     let h = payload_short p f.4 in
