@@ -46,6 +46,8 @@ pub struct Journal {
     epoch: u64,
     is_live: bool,
     executed: u64,
+    /// The executed commands before the first ones that came from others while this node took no part.
+    behind: Option<u64>,
     room: Room,
     /// The executed commands at the last line about the state.
     told: u64,
@@ -69,6 +71,7 @@ impl Journal {
             epoch,
             is_live: false,
             executed,
+            behind: None,
             room: Room::of(bytes),
             told: executed,
         }
@@ -93,8 +96,8 @@ impl Journal {
         self.hear(&mut since, turn, datagram);
         self.room.add(turn.size);
         if turn.size > 0 || self.since.is_none() {
-            self.note_epoch(state);
             self.note_transfer(turn, state);
+            self.note_epoch(state);
         }
         if let ReceivedInput::Suspect(members) = &turn.taken {
             self.note_suspicion(members.as_slice(), state);
@@ -136,6 +139,7 @@ impl Journal {
         }
         let (members, spec) = replicas_of(state.known(), state.counted().as_slice());
         if is_live {
+            self.note_caught_up();
             self.say(Some(Line::Entered {
                 epoch,
                 members,
@@ -154,15 +158,25 @@ impl Journal {
         self.is_live = is_live;
     }
 
-    /// Says that executed commands came from others.
+    /// Notes executed commands that came from others while this node took no part.
     fn note_transfer(&mut self, turn: &TurnResult, state: &Ledger) {
-        let to = state.executed_len();
-        let from = self.executed;
         let records = turn.batch.records.as_slice();
-        if records.iter().any(|rec| matches!(rec, Rec::Adopt { .. })) {
+        if !self.is_live
+            && self.behind.is_none()
+            && records.iter().any(|rec| matches!(rec, Rec::Adopt { .. }))
+        {
+            self.behind = Some(self.executed);
+        }
+        self.executed = state.executed_len();
+    }
+
+    /// Says, once this node takes part, that executed commands had come from others.
+    fn note_caught_up(&mut self) {
+        if let Some(from) = self.behind {
+            let to = self.executed;
             self.say(Some(Line::Transferred { from, to }));
         }
-        self.executed = to;
+        self.behind = None;
     }
 
     /// Says whom a suspicion leaves out.
