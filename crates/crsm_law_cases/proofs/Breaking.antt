@@ -16,7 +16,8 @@ use Rattle.crsm_law_cluster.specs.Clusters.{Event, Process, Cluster, empty_host,
 use Rattle.crsm_law_cluster.specs.Histories.{clusters_from, clusters, last_from, last_cluster}
 use Rattle.crsm_law_cluster.specs.Lawful.{IsGenuine, IsLawful}
 use Rattle.crsm_law_cluster.specs.OneList.{lists, one_list}
-use Rattle.crsm_law_lives.specs.Events.{after_turns, left_by, lives_of}
+use Rattle.crsm_spec_process.specs.Turns.{replica_after}
+use Rattle.crsm_law_lives.specs.Events.{left_by, lives_of}
 use Rattle.crsm_law_lives.specs.Premises.{DisksKeep}
 use Rattle.crsm_law_cases.specs.Cases.{ForgedFramesBreak, SendsWaitForKeeps, AnswersWaitForKeeps, OldLogsBreak}
 use Rattle.crsm_law_cases.proofs.Checks.{all_bytes, are_bytes, all_short, short_cluster, asks}
@@ -203,7 +204,7 @@ two_four : ◌≡◌ {A = ℕ} 2 4 → ⊥
 two_four e = absurd (omega (arith, e))
 
 not_kept : DisksKeep 1 (first_life ∷ second_life ∷ []) → ⊥
-unfolding the_model asked lives_of left_by after_turns kept_turns
+unfolding the_model asked lives_of left_by replica_after kept_turns
 not_kept d = two_four (ap length (d 0).2.0)
 
 pub old_logs_break : OldLogsBreak

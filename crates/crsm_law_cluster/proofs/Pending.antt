@@ -54,7 +54,7 @@ pub record Kept (n : ℕ) (w : World) (k : ℕ) (ps : List Outgoing) (q : Replic
   pub out : (j : ℕ) (d : Datagram) → Among ps (Outgoing.ToReplica j d) → WasSent world k j d
   pub told : (a : Reply) → Among ps (Outgoing.ToClient a) → IsTold n world a
 
-made_packet : (k j : ℕ) (d : Datagram) (x : Draft) (ms : List Packet) → Among (outgoing_of x) (Outgoing.ToReplica j d) → Among (ms ++ map (packet_of k) x.sends) (record { from = k; to = j; datagram = d; used = false })
+pub made_packet : (k j : ℕ) (d : Datagram) (x : Draft) (ms : List Packet) → Among (outgoing_of x) (Outgoing.ToReplica j d) → Among (ms ++ map (packet_of k) x.sends) (record { from = k; to = j; datagram = d; used = false })
 unfolding outgoing_of packet_of
 made_packet k j d x ms a = among_right ms (map (packet_of k) x.sends) _ (elim (among_either (map (λ s. Outgoing.ToReplica s.0 s.1) x.sends) (map Outgoing.ToClient x.replies) (Outgoing.ToReplica j d) a) [
   | inl b ↦ go x.sends b

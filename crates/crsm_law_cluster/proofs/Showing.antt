@@ -18,7 +18,7 @@ use Rattle.crsm_law_steps.specs.Happenings.{WasSent}
 use Rattle.crsm_law_steps.proofs.Moments.{on_then}
 use Rattle.crsm_law_cluster.specs.Clusters.{Event, Outgoing, Process, Host, Cluster, log_in, empty_host, host_at, with_host, started, while_up, with_process, posted, sent_of, next_out, after, unborn}
 use Rattle.crsm_law_cluster.specs.Histories.{last_from, last_cluster, clusters_from, clusters}
-use Rattle.crsm_law_cluster.specs.Lawful.{MayHappen, IsLawfulFrom}
+use Rattle.crsm_law_cluster.specs.Lawful.{MayHappen, IsLawfulFrom, IsLawful}
 use Rattle.crsm_law_cluster.specs.Showing.{IsShownBy, AreShownBy}
 use Rattle.crsm_law_cluster.specs.HistoryLaws.{HistoriesAreShown}
 use Rattle.crsm_law_cluster.proofs.Lists.{below, set_none, none_above, got_range, none_in_range, range_length}
@@ -159,7 +159,7 @@ told_there n w k _ _ (unstarted lt) x a is m = absurd (none-some x is)
 told_there n w k _ _ (of_down log) x a is m = absurd (none-some x is)
 told_there n w k _ _ (of_up r y p o) x a is m = o.told a (subst (λ (z : Process). Among z.outbox (Outgoing.ToClient a)) (sym (same_Some y x is)) m)
 
-shown_by : (n : ℕ) (c : Cluster) (w : World) → Shows n c w → IsShownBy n c w
+pub shown_by : (n : ℕ) (c : Cluster) (w : World) → Shows n c w → IsShownBy n c w
 unfolding log_in log_at
 shown_by n c w h = record {
   size = h.size;
@@ -207,6 +207,16 @@ shown_from n c w (e ∷ h) l g =
     both m f zero j b d le p q = let t = at m f j d q in record { world = w; shown = here b (same_Some c b p); next = t.0; next_shown = t.1; later = t.2; goes_on = t.3 }
     both m f (suc i) zero b d le p q = absurd (omega (arith, le))
     both m f (suc i) (suc j) b d le p q = f.between i j b d (omega (arith, le)) p q
+
+ends_from : (n : ℕ) (c : Cluster) (w : World) (h : List Event) → IsLawfulFrom c h → Shows n c w → (u : World) × Shows n (last_from c h) u
+unfolding last_from
+ends_from n c w [] l g = (w, g)
+ends_from n c w (e ∷ h) l g = let m = happens n c w e l.0 g in ends_from n (after c e) m.world h l.1 m.shows
+
+-- a world shows the hosts at the end
+pub end_is_shown : (n : ℕ) (h : List Event) → n ≤ 15 → IsLawful n h → (w : World) × Shows n (last_cluster n h) w
+unfolding last_cluster
+end_is_shown n h most l = ends_from n (unborn n) (begin n) h l (unborn_shown n most)
 
 pub histories_are_shown : HistoriesAreShown
 unfolding last_cluster clusters

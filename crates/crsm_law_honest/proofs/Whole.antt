@@ -14,7 +14,8 @@ use Rattle.crsm_fact_log.proofs.Lists.{all_at, last_among}
 use Rattle.crsm_spec_process.specs.Lives.{Life}
 use Rattle.crsm_law_cluster.specs.Clusters.{Event, Host, log_in, unborn}
 use Rattle.crsm_law_cluster.specs.Histories.{last_cluster}
-use Rattle.crsm_law_lives.specs.Events.{after_turns, events_of, left_by, life_events, lives_of}
+use Rattle.crsm_spec_process.specs.Turns.{replica_after}
+use Rattle.crsm_law_lives.specs.Events.{events_of, left_by, life_events, lives_of}
 use Rattle.crsm_law_lives.specs.Premises.{FindWhatIsLeft, IsProcess, Ran}
 use Rattle.crsm_law_lives.proofs.Hosts.{host_run, own_run, own_then}
 use Rattle.crsm_law_lives.proofs.Laws.{life_own, unborn_size, unborn_there}
@@ -25,12 +26,12 @@ use Rattle.crsm_law_honest.specs.Laws.{WholeSheetsAreComplete}
 
 -- ---- a sheet with all turns
 
-log_of_turns : (r : Replica) (ts : List (Turn × ℕ)) → log_after r.log (outputs_from r ts) ≡ (after_turns r ts).log
-unfolding log_after outputs_from after_turns
+log_of_turns : (r : Replica) (ts : List (Turn × ℕ)) → log_after r.log (outputs_from r ts) ≡ (replica_after r ts).log
+unfolding log_after outputs_from replica_after
 log_of_turns r [] = refl
 log_of_turns r (t ∷ ts) = log_of_turns (turn r t).replica ts
 
-log_of_steps : (me n : ℕ) (found : Log) (ts : List (Turn × ℕ)) → log_after found (outputs me n found ts) ≡ (after_turns (boot me n found).replica ts).log
+log_of_steps : (me n : ℕ) (found : Log) (ts : List (Turn × ℕ)) → log_after found (outputs me n found ts) ≡ (replica_after (boot me n found).replica ts).log
 unfolding log_after outputs
 log_of_steps me n found ts = log_of_turns (boot me n found).replica ts
 
@@ -39,9 +40,9 @@ whole_log : (n : ℕ) (l : Life) (s : Sheet) → IsWholeOf l s → last_log n s 
 unfolding left_by
 whole_log n l s w =
     log_of_steps s.me n s.found s.turns
-    ∙ ap (λ k. (after_turns (boot k n s.found).replica s.turns).log) w.me
-    ∙ ap (λ log. (after_turns (boot l.me n log).replica s.turns).log) w.found
-    ∙ ap (λ ts. (after_turns (boot l.me n l.found).replica ts).log) w.turns
+    ∙ ap (λ k. (replica_after (boot k n s.found).replica s.turns).log) w.me
+    ∙ ap (λ log. (replica_after (boot l.me n log).replica s.turns).log) w.found
+    ∙ ap (λ ts. (replica_after (boot l.me n l.found).replica ts).log) w.turns
 
 -- ---- the processes of a node, one after another
 

@@ -19,7 +19,8 @@ use Rattle.crsm_law_cluster.specs.ClusterLaws.{IsHistory}
 use Rattle.crsm_law_cluster.proofs.Last.{shown, last}
 use Rattle.crsm_law_cluster.proofs.Executed.{prefix_then, executed_prefix}
 use Rattle.crsm_law_cluster.proofs.Turns.{turn_logs}
-use Rattle.crsm_law_lives.specs.Events.{after_turns, left_by}
+use Rattle.crsm_spec_process.specs.Turns.{replica_after}
+use Rattle.crsm_law_lives.specs.Events.{left_by}
 use Rattle.crsm_law_lives.specs.Premises.{Ran}
 use Rattle.crsm_law_lives.proofs.Laws.{lives_are_lawful}
 
@@ -28,21 +29,21 @@ use Rattle.crsm_law_lives.proofs.Laws.{lives_are_lawful}
 pub turn_grows : (r : Replica) (t : Turn × ℕ) → Extends r.log (turn r t).replica.log
 turn_grows r t = (turn_logs r t.0 t.1).grows
 
-pub turns_grow : (r : Replica) (ts : List (Turn × ℕ)) → Extends r.log (after_turns r ts).log
-unfolding after_turns
+pub turns_grow : (r : Replica) (ts : List (Turn × ℕ)) → Extends r.log (replica_after r ts).log
+unfolding replica_after
 turns_grow r [] = same
 turns_grow r (t ∷ ts) = extends_trans (turn_grows r t) (turns_grow (turn r t).replica ts)
 
-outputs_grow : (r : Replica) (ts : List (Turn × ℕ)) (x : Draft) → Among (outputs_from r ts) x → Extends x.replica.log (after_turns r ts).log
-unfolding outputs_from after_turns
+outputs_grow : (r : Replica) (ts : List (Turn × ℕ)) (x : Draft) → Among (outputs_from r ts) x → Extends x.replica.log (replica_after r ts).log
+unfolding outputs_from replica_after
 outputs_grow r [] x a = absurd a
-outputs_grow r (t ∷ ts) x (inl e) = subst (λ (y : Draft). Extends y.replica.log (after_turns (turn r t).replica ts).log) e (turns_grow (turn r t).replica ts)
+outputs_grow r (t ∷ ts) x (inl e) = subst (λ (y : Draft). Extends y.replica.log (replica_after (turn r t).replica ts).log) e (turns_grow (turn r t).replica ts)
 outputs_grow r (t ∷ ts) x (inr a) = outputs_grow (turn r t).replica ts x a
 
 -- each step of a process has a log that its last log goes on from
 pub steps_grow : (n : ℕ) (l : Life) (x : Draft) → Among (kept_steps n l) x → Extends x.replica.log (left_by n l)
 unfolding kept_steps outputs left_by
-steps_grow n l x (inl e) = subst (λ (y : Draft). Extends y.replica.log (after_turns (boot l.me n l.found).replica (kept_turns l.groups)).log) e (turns_grow (boot l.me n l.found).replica (kept_turns l.groups))
+steps_grow n l x (inl e) = subst (λ (y : Draft). Extends y.replica.log (replica_after (boot l.me n l.found).replica (kept_turns l.groups)).log) e (turns_grow (boot l.me n l.found).replica (kept_turns l.groups))
 steps_grow n l x (inr a) = outputs_grow (boot l.me n l.found).replica (kept_turns l.groups) x a
 
 -- ---- lives

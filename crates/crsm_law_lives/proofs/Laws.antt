@@ -18,7 +18,8 @@ use Rattle.crsm_law_epoch.proofs.Words.{among_unmap}
 use Rattle.crsm_law_cluster.specs.Going.{IsAt}
 use Rattle.crsm_law_cluster.proofs.Along.{IsThere, from_then, next_there}
 use Rattle.crsm_law_lives.specs.Events.{AreEventsOf, take_events, fate_events, group_events, life_events, node_of, events_of, lives_of}
-use Rattle.crsm_law_lives.specs.Premises.{CanBeTaken, IsProcess, WasSentBy, SpeaksTrue, NobodyForges, Ran}
+use Rattle.crsm_spec_process.specs.Turns.{CanBeTaken}
+use Rattle.crsm_law_lives.specs.Premises.{IsProcess, WasSentBy, SpeaksTrue, NobodyForges, Ran}
 use Rattle.crsm_law_lives.specs.Laws.{IsIn, LivesAreLawful}
 use Rattle.crsm_law_lives.proofs.Hosts.{own_run, own_then, host_run, IsCut, cut_at, IsBefore, before_next, own_first, other_first}
 use Rattle.crsm_law_lives.proofs.Processes.{life_left, IsPlaced, placed}

@@ -9,12 +9,13 @@ use Rattle.crsm_spec.specs.Step.{boot}
 use Rattle.crsm_spec.specs.Node.{Turn, turn}
 use Rattle.crsm_spec_process.specs.Lives.{Group, Life, kept_turns}
 use Rattle.crsm_law_cluster.specs.Clusters.{Event, Process, Host, started, with_turn, kept, while_up, with_process, posted}
-use Rattle.crsm_law_lives.specs.Events.{take_events, fate_events, group_events, life_events, after_turns, left_by}
+use Rattle.crsm_spec_process.specs.Turns.{replica_after}
+use Rattle.crsm_law_lives.specs.Events.{take_events, fate_events, group_events, life_events, left_by}
 use Rattle.crsm_law_lives.specs.Premises.{FindWhatIsLeft}
 use Rattle.crsm_law_lives.proofs.Hosts.{own_event, own_run, own_then}
 
-pub turns_then : (r : Replica) (ts us : List (Turn × ℕ)) → after_turns r (ts ++ us) ≡ after_turns (after_turns r ts) us
-unfolding after_turns
+pub turns_then : (r : Replica) (ts us : List (Turn × ℕ)) → replica_after r (ts ++ us) ≡ replica_after (replica_after r ts) us
+unfolding replica_after
 turns_then r [] us = refl
 turns_then r (t ∷ ts) us = turns_then (turn r t).replica ts us
 
@@ -34,8 +35,8 @@ pub record IsLeft (p : Host) (log : Log) (ended : Bool) : Type 0 where
   pub gone : ended ≡ true → p ≡ record { log = log; process = None }
 
 module _ (k n : ℕ) where
-  taken : (ts : List (Turn × ℕ)) (p : Host) (log : Log) (r : Replica) → IsUp p log r → IsUp (own_run k n (take_events k ts) p) log (after_turns r ts)
-  unfolding own_run take_events after_turns own_event while_up with_process with_turn
+  taken : (ts : List (Turn × ℕ)) (p : Host) (log : Log) (r : Replica) → IsUp p log r → IsUp (own_run k n (take_events k ts) p) log (replica_after r ts)
+  unfolding own_run take_events replica_after own_event while_up with_process with_turn
   taken [] p log r u = u
   taken (t ∷ ts) p log r u = taken ts _ log (turn r t).replica (record {
     process = with_turn t.0 t.1 u.process;
@@ -58,20 +59,20 @@ module _ (k n : ℕ) where
     replica = u.replica;
   })
 
-  group_kept : (g : Group) (p : Host) (log : Log) (r : Replica) → IsUp p log r → IsUp (own_run k n (group_events k g) p) (after_turns r g.turns).log (after_turns r g.turns)
+  group_kept : (g : Group) (p : Host) (log : Log) (r : Replica) → IsUp p log r → IsUp (own_run k n (group_events k g) p) (replica_after r g.turns).log (replica_after r g.turns)
   unfolding group_events
   group_kept g p log r u =
-      let r' = after_turns r g.turns in
+      let r' = replica_after r g.turns in
       subst (λ q. IsUp q r'.log r') (sym (own_then k n (take_events k g.turns) (Event.Keeps k ∷ fate_events k g.fates) p)) (one_kept g.fates _ log r' (taken g.turns p log r u))
 
-  groups_kept : (gs : List Group) (p : Host) (r : Replica) → IsUp p r.log r → IsUp (own_run k n (flat_map (group_events k) gs) p) (after_turns r (kept_turns gs)).log (after_turns r (kept_turns gs))
-  unfolding own_run kept_turns after_turns
+  groups_kept : (gs : List Group) (p : Host) (r : Replica) → IsUp p r.log r → IsUp (own_run k n (flat_map (group_events k) gs) p) (replica_after r (kept_turns gs)).log (replica_after r (kept_turns gs))
+  unfolding own_run kept_turns replica_after
   groups_kept [] p r u = u
   groups_kept (g ∷ gs) p r u =
-      let r' = after_turns r g.turns in
+      let r' = replica_after r g.turns in
       let v = groups_kept gs (own_run k n (group_events k g) p) r' (group_kept g p r.log r u) in
       subst (λ z. IsUp (own_run k n (flat_map (group_events k) (g ∷ gs)) p) z.log z) (sym (turns_then r g.turns (kept_turns gs)))
-      (subst (λ q. IsUp q (after_turns r' (kept_turns gs)).log (after_turns r' (kept_turns gs))) (sym (own_then k n (group_events k g) (flat_map (group_events k) gs) p)) v)
+      (subst (λ q. IsUp q (replica_after r' (kept_turns gs)).log (replica_after r' (kept_turns gs))) (sym (own_then k n (group_events k g) (flat_map (group_events k) gs) p)) v)
 
   booted : (log : Log) → IsUp (own_run k n (Event.Boots k ∷ []) (record { log = log; process = None })) (boot k n log).replica.log (boot k n log).replica
   unfolding own_run own_event started
@@ -84,11 +85,11 @@ module _ (k n : ℕ) where
   ends true p log r u = record { log_is = ap (λ q. q.log) u.host; gone = λ e. ap (λ (q : Host). record q { process = None }) u.host }
   ends false p log r u = record { log_is = ap (λ q. q.log) u.host; gone = λ e. absurd (cc) }
 
-  lived : (found : Log) (gs : List Group) (lost : List (Turn × ℕ)) (ended : Bool) → let r = after_turns (boot k n found).replica (kept_turns gs) in
+  lived : (found : Log) (gs : List Group) (lost : List (Turn × ℕ)) (ended : Bool) → let r = replica_after (boot k n found).replica (kept_turns gs) in
       IsLeft (own_run k n (Event.Boots k ∷ flat_map (group_events k) gs ++ take_events k lost ++ cond ended (Event.Stops k ∷ []) []) (record { log = found; process = None })) r.log ended
   lived found gs lost ended =
       let p : Host = record { log = found; process = None } in
-      let r = after_turns (boot k n found).replica (kept_turns gs) in
+      let r = replica_after (boot k n found).replica (kept_turns gs) in
       let q = own_run k n (Event.Boots k ∷ []) p in
       let v = groups_kept gs q (boot k n found).replica (booted found) in
       let w = taken lost (own_run k n (flat_map (group_events k) gs) q) r.log r v in
@@ -97,7 +98,7 @@ module _ (k n : ℕ) where
       own_then k n (Event.Boots k ∷ []) ((flat_map (group_events k) gs ++ take_events k lost) ++ stop) p
       ∙ own_then k n (flat_map (group_events k) gs ++ take_events k lost) stop q
       ∙ ap (own_run k n stop) (own_then k n (flat_map (group_events k) gs) (take_events k lost) q) in
-      subst (λ z. IsLeft z r.log ended) (sym split) (ends ended _ r.log (after_turns r lost) w)
+      subst (λ z. IsLeft z r.log ended) (sym split) (ends ended _ r.log (replica_after r lost) w)
 
 pub life_left : (n : ℕ) (l : Life) → IsLeft (own_run l.me n (life_events l) (record { log = l.found; process = None })) (left_by n l) l.ended
 unfolding life_events left_by

@@ -15,9 +15,10 @@ use Rattle.crsm_spec.specs.Node.{Turn, turn, outputs_from}
 use Rattle.crsm_fact_log.proofs.Lists.{all_at}
 use Rattle.crsm_spec_process.specs.Lives.{Group, Life}
 use Rattle.crsm_law_cluster.specs.Clusters.{Event, Outgoing, outgoing_of, Process, Host, Cluster, host_at, next_out, started, with_turn, kept, while_up, with_process, posted, after, unborn}
-use Rattle.crsm_law_lives.specs.Events.{take_events, fate_events, group_events, life_events, after_turns, left_by, node_of, events_of, lives_of}
+use Rattle.crsm_spec_process.specs.Turns.{gone, replica_after}
+use Rattle.crsm_law_lives.specs.Events.{take_events, fate_events, group_events, life_events, left_by, node_of, events_of, lives_of}
 use Rattle.crsm_law_lives.specs.Premises.{FindWhatIsLeft}
-use Rattle.crsm_law_lives.specs.Sending.{handed_by, gone, sent_from, sent_by, HaveFates, HasFates, out_at, outs_from}
+use Rattle.crsm_law_lives.specs.Sending.{handed_by, sent_from, sent_by, HaveFates, HasFates, out_at, outs_from}
 use Rattle.crsm_law_lives.specs.Laws.{SendsAreTheirs}
 use Rattle.crsm_law_lives.proofs.Processes.{life_left}
 use Rattle.crsm_law_lives.proofs.Laws.{life_own, unborn_there, unborn_size}
@@ -95,11 +96,11 @@ silent k n [] = go (nat_lt k n)
     go false = refl
 
 module _ (k n : ℕ) where
-  takes_run : (ts : List (Turn × ℕ)) (log : Log) (r : Replica) (ps os : List Outgoing) → own_run k n (take_events k ts) (up log r ps os) ≡ up log (after_turns r ts) (ps ++ handed_by r ts) os
-  unfolding own_run take_events after_turns own_event while_up with_process with_turn handed_by outputs_from
+  takes_run : (ts : List (Turn × ℕ)) (log : Log) (r : Replica) (ps os : List Outgoing) → own_run k n (take_events k ts) (up log r ps os) ≡ up log (replica_after r ts) (ps ++ handed_by r ts) os
+  unfolding own_run take_events replica_after own_event while_up with_process with_turn handed_by outputs_from
   takes_run [] log r ps os = ap (λ z. up log r z os) (sym (append-nil ps))
   takes_run (t ∷ ts) log r ps os =
-      takes_run ts log (turn r t).replica (ps ++ outgoing_of (turn r t)) os ∙ ap (λ z. up log (after_turns (turn r t).replica ts) z os) (append_assoc ps (outgoing_of (turn r t)) (flat_map outgoing_of (outputs_from (turn r t).replica ts)))
+      takes_run ts log (turn r t).replica (ps ++ outgoing_of (turn r t)) os ∙ ap (λ z. up log (replica_after (turn r t).replica ts) z os) (append_assoc ps (outgoing_of (turn r t)) (flat_map outgoing_of (outputs_from (turn r t).replica ts)))
 
   takes_outs : (ts : List (Turn × ℕ)) (p : Host) → own_outs k n (take_events k ts) p ≡ []
   unfolding own_outs own_out take_events
@@ -129,12 +130,12 @@ module _ (k n : ℕ) where
   unfolding own_outs own_out own_event while_up kept
   keep_outs fates log r ps = fates_outs fates r.log r ps
 
-  group_run : (g : Group) (log : Log) (r : Replica) → own_run k n (group_events k g) (up log r [] []) ≡ up (after_turns r g.turns).log (after_turns r g.turns) [] (drop (length g.fates) (handed_by r g.turns))
+  group_run : (g : Group) (log : Log) (r : Replica) → own_run k n (group_events k g) (up log r [] []) ≡ up (replica_after r g.turns).log (replica_after r g.turns) [] (drop (length g.fates) (handed_by r g.turns))
   unfolding group_events
   group_run g log r =
       own_then k n (take_events k g.turns) (Event.Keeps k ∷ fate_events k g.fates) (up log r [] [])
       ∙ ap (own_run k n (Event.Keeps k ∷ fate_events k g.fates)) (takes_run g.turns log r [] [])
-      ∙ keep_run g.fates log (after_turns r g.turns) (handed_by r g.turns)
+      ∙ keep_run g.fates log (replica_after r g.turns) (handed_by r g.turns)
 
   group_outs : (g : Group) (log : Log) (r : Replica) → own_outs k n (group_events k g) (up log r [] []) ≡ gone (handed_by r g.turns) g.fates
   unfolding group_events
@@ -142,13 +143,13 @@ module _ (k n : ℕ) where
       outs_then k n (take_events k g.turns) (Event.Keeps k ∷ fate_events k g.fates) (up log r [] [])
       ∙ ap (λ z. z ++ own_outs k n (Event.Keeps k ∷ fate_events k g.fates) (own_run k n (take_events k g.turns) (up log r [] []))) (takes_outs g.turns (up log r [] []))
       ∙ ap (own_outs k n (Event.Keeps k ∷ fate_events k g.fates)) (takes_run g.turns log r [] [])
-      ∙ keep_outs g.fates log (after_turns r g.turns) (handed_by r g.turns)
+      ∙ keep_outs g.fates log (replica_after r g.turns) (handed_by r g.turns)
 
   groups_outs : (gs : List Group) (log : Log) (r : Replica) → HaveFates r gs → own_outs k n (flat_map (group_events k) gs) (up log r [] []) ≡ sent_from r gs
   unfolding own_outs sent_from
   groups_outs [] log r h = refl
   groups_outs (g ∷ gs) log r h =
-      let s = after_turns r g.turns in
+      let s = replica_after r g.turns in
       let left = drop (length g.fates) (handed_by r g.turns) in
       let rest : own_outs k n (flat_map (group_events k) gs) (up s.log s [] left) ≡ sent_from s gs = elim h.0 [
         | inl none ↦ ap (λ z. own_outs k n (flat_map (group_events k) z) (up s.log s [] left)) none ∙ ap (sent_from s) (sym none)

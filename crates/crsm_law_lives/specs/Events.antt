@@ -2,10 +2,10 @@
 use Rattle.std.specs.Prelude.{◌≡◌, ℕ, ◌==◌, Bool, List, [], ◌∷◌, ◌++◌, map, filter, if◌then◌else◌}
 use Rattle.std.specs.List.{flat_map}
 use Rattle.crsm_spec.specs.Log.{Log}
-use Rattle.crsm_spec.specs.Replica.{Replica}
 use Rattle.crsm_spec.specs.Step.{boot}
-use Rattle.crsm_spec.specs.Node.{Turn, turn}
+use Rattle.crsm_spec.specs.Node.{Turn}
 use Rattle.crsm_spec_process.specs.Lives.{Group, Life, kept_turns}
+use Rattle.crsm_spec_process.specs.Turns.{replica_after}
 use Rattle.crsm_law_cluster.specs.Clusters.{Event}
 
 -- ---- one process
@@ -26,14 +26,9 @@ unfoldable pub life_events : Life → List Event
 life_events l =
     Event.Boots l.me ∷ flat_map (group_events l.me) l.groups ++ take_events l.me l.lost ++ (if l.ended then Event.Stops l.me ∷ [] else [])
 
--- the replica after turns
-unfoldable pub after_turns : Replica → List (Turn × ℕ) → Replica
-after_turns r [] = r
-after_turns r (t ∷ ts) = after_turns (turn r t).replica ts
-
 -- the log that a process leaves behind, in a cluster that began with n replicas
 unfoldable pub left_by : ℕ → Life → Log
-left_by n l = (after_turns (boot l.me n l.found).replica (kept_turns l.groups)).log
+left_by n l = (replica_after (boot l.me n l.found).replica (kept_turns l.groups)).log
 
 -- ---- all processes
 

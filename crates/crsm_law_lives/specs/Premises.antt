@@ -1,27 +1,17 @@
 -- The premises about the processes of a cluster's nodes, their disks and the network.
-use Rattle.std.specs.Prelude.{◌≡◌, ◌⊎◌, ℕ, ◌<◌, ◌^◌, true, List, [], ◌∷◌, ◌++◌, Some}
+use Rattle.std.specs.Prelude.{◌≡◌, ◌⊎◌, ℕ, ◌<◌, true, List, [], ◌∷◌, ◌++◌, Some}
 use Rattle.std.specs.List.{AllByRecursion}
-use Rattle.crsm_base.specs.Members.{IsMembers}
 use Rattle.crsm_base.specs.MessageReading.{datagram_of}
 use Rattle.crsm_spec.specs.Types.{Datagram}
 use Rattle.crsm_spec.specs.Log.{Log}
 use Rattle.crsm_spec.specs.Node.{Turn}
 use Rattle.crsm_spec_process.specs.Lives.{Life, kept_turns}
+use Rattle.crsm_spec_process.specs.Turns.{CanBeTaken}
 use Rattle.crsm_law_cluster.specs.Clusters.{Event, Outgoing, Cluster, next_out}
-use Rattle.crsm_law_cluster.specs.Lawful.{IsByte}
 use Rattle.crsm_law_cluster.specs.Going.{IsAt}
 use Rattle.crsm_law_lives.specs.Events.{AreEventsOf, left_by, lives_of}
 
 -- ---- processes
-
--- bytes are below 256, a suspicion has members, and a reading is a u64
-abbrev pub IsTurn : Turn → Type 0
-IsTurn (Turn.In address bytes) = AllByRecursion IsByte bytes
-IsTurn Turn.Tick = Unit {0}
-IsTurn (Turn.Suspect ms) = IsMembers ms
-
-abbrev pub CanBeTaken : Turn × ℕ → Type 0
-CanBeTaken t = (t.1 < 2 ^ 64) × IsTurn t.0
 
 pub record IsProcess (l : Life) : Type 0 where
   pub number : l.me < 15

@@ -1,12 +1,12 @@
 -- The datagrams and replies that a process sends, and those of a history.
-use Rattle.std.specs.Prelude.{◌≡◌, ◌⊎◌, ℕ, ◌==◌, Bool, List, [], ◌∷◌, ◌++◌, length, if◌then◌else◌, option_to_list}
+use Rattle.std.specs.Prelude.{◌≡◌, ◌⊎◌, ℕ, ◌==◌, List, [], ◌∷◌, ◌++◌, length, if◌then◌else◌, option_to_list}
 use Rattle.std.specs.List.{flat_map}
 use Rattle.crsm_spec.specs.Replica.{Replica}
 use Rattle.crsm_spec.specs.Step.{boot}
 use Rattle.crsm_spec.specs.Node.{Turn, outputs_from}
 use Rattle.crsm_spec_process.specs.Lives.{Group, Life}
+use Rattle.crsm_spec_process.specs.Turns.{gone, replica_after}
 use Rattle.crsm_law_cluster.specs.Clusters.{Event, Outgoing, outgoing_of, Cluster, next_out, after}
-use Rattle.crsm_law_lives.specs.Events.{after_turns}
 
 -- ---- of a process
 
@@ -14,16 +14,10 @@ use Rattle.crsm_law_lives.specs.Events.{after_turns}
 unfoldable pub handed_by : Replica → List (Turn × ℕ) → List Outgoing
 handed_by r turns = flat_map outgoing_of (outputs_from r turns)
 
--- those of them that are sent
-unfoldable pub gone : List Outgoing → List Bool → List Outgoing
-gone [] fates = []
-gone (o ∷ os) [] = []
-gone (o ∷ os) (fate ∷ fates) = if fate then o ∷ gone os fates else gone os fates
-
 -- those that are sent of groups, from this state on
 unfoldable pub sent_from : Replica → List Group → List Outgoing
 sent_from r [] = []
-sent_from r (g ∷ groups) = gone (handed_by r g.turns) g.fates ++ sent_from (after_turns r g.turns) groups
+sent_from r (g ∷ groups) = gone (handed_by r g.turns) g.fates ++ sent_from (replica_after r g.turns) groups
 
 -- the datagrams and replies that a process sends, in a cluster that began with n replicas
 unfoldable pub sent_by : ℕ → Life → List Outgoing
@@ -34,7 +28,7 @@ sent_by n l = sent_from (boot l.me n l.found).replica l.groups
 abbrev pub HaveFates : Replica → List Group → Type 0
 HaveFates r [] = Unit {0}
 HaveFates r (g ∷ groups) =
-    ((groups ≡ []) ⊎ (length g.fates ≡ length (handed_by r g.turns))) × HaveFates (after_turns r g.turns) groups
+    ((groups ≡ []) ⊎ (length g.fates ≡ length (handed_by r g.turns))) × HaveFates (replica_after r g.turns) groups
 
 abbrev pub HasFates : ℕ → Life → Type 0
 HasFates n l = HaveFates (boot l.me n l.found).replica l.groups

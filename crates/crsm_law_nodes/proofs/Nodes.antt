@@ -11,7 +11,7 @@ use Rattle.crsm_spec.specs.Step.{boot}
 use Rattle.crsm_spec.specs.Node.{Turn, turn, outputs_from, outputs}
 use Rattle.crsm_schedule.specs.Transcript.{line_text}
 use Rattle.crsm_wire.specs.Inverse.{AreBytes}
-use Rattle.crsm_port_node.specs.Laws.{SendersAreNamed}
+use Rattle.crsm_port_peers.specs.Laws.{SendersAreNamed}
 use Rattle.crsm_replica_rerun.specs.Laws.{SheetsHaveOneText}
 use Rattle.crsm_replica_rerun.specs.Sheets.{IsSheet}
 use Rattle.crsm_replica_rerun.specs.Texts.{IsNodeText, ending_of, shown_text}

@@ -5,7 +5,7 @@ ghost use Rattle.crsm_law_nodes.specs.Addresses.{AddressesSuffice};
 ghost use Rattle.crsm_law_nodes.specs.Sheets.{SheetsAreRight};
 
 use crsm_law_lives::steps_are_right;
-use crsm_port_node::senders_are_named;
+use crsm_port_peers::senders_are_named;
 use crsm_replica_rerun::sheets_have_one_text;
 
 /// No datagram is forged if nobody sends from a replica's address, and each node accepts a datagram that names a

@@ -104,11 +104,11 @@ found_there c es p h at =
     both true b i j = j
     both false b i j = i
 
-not_dropped : (r : Replica) (f : Entry) → f.epoch ≡ known r.log → IsTrue (is_dropped r f) → ⊥
+pub not_dropped : (r : Replica) (f : Entry) → f.epoch ≡ known r.log → IsTrue (is_dropped r f) → ⊥
 unfolding is_dropped
 not_dropped r f e h = (let t = and_parts (nat_le (start r.log) (length (executed r.log))) (nat_lt f.epoch (known r.log)) h in let lt = ltb-true f.epoch (known r.log) t.1 in absurd (omega (arith, lt, e)))
 
-line_is : (x : Draft) (k : ℕ) (c : Waiting) (p : ℕ × Entry) → x.replica.me ≡ k → answer_line x c p ≡ line_to k c p (executed x.replica.log)
+pub line_is : (x : Draft) (k : ℕ) (c : Waiting) (p : ℕ × Entry) → x.replica.me ≡ k → answer_line x c p ≡ line_to k c p (executed x.replica.log)
 unfolding answer_line
 line_is x k c p me = ap (λ i. Line.ReplyOk i c.entry.command.client c.entry.command.number p.0 (answer_after (take p.0 (executed x.replica.log)) p.1)) me
 
@@ -255,11 +255,11 @@ marked_serves k e i c w lines h = record { replica = h.replica; up = ap (λ ss. 
 
 module _ (t : ℕ) (C : ℕ → Type 0) (v end : World) (lt : t < 2 ^ 64) (all : List ℕ)
     (packets : (i : ℕ) → Among all i → (m : Packet) × (slice_get v.packets i ≡ Some m))
-    (calm : (u : World) → GoesCalmly t C v [] u → LogsGoOn u end → (i : ℕ) (m : Packet) → Among all i → slice_get v.packets i ≡ Some m → C m.to → (r : Replica) →
+    (calm : (u : World) → GoesCalmly C v [] u → LogsGoOn u end → (i : ℕ) (m : Packet) → Among all i → slice_get v.packets i ≡ Some m → C m.to → (r : Replica) →
     slice_get u.sites m.to ≡ Some (Site.Up r) → IsCalmInput r (Input.Came m.from m.datagram)) (k e : ℕ) (c : Waiting) (epoch : c.entry.epoch ≡ e) (counted : C k) where
-  go_serves : (u : World) → GoesCalmly t C v [] u → LogsGoOn u end → (i : ℕ) → Among all i → (lines : List Line) → WaitsOrTold k e c u lines →
+  go_serves : (u : World) → GoesCalmly C v [] u → LogsGoOn u end → (i : ℕ) → Among all i → (lines : List Line) → WaitsOrTold k e c u lines →
       WaitsOrTold k e c (after_go t u i) (lines ++ (single whole_step u (Single.Go i t)).lines)
-  go_serves u g ends i a lines h = (let p = packets i a in go p.0 p.1 (calm_at t C v g i p.0 p.1) (up_or_not u p.0.to))
+  go_serves u g ends i a lines h = (let p = packets i a in go p.0 p.1 (calm_at C v g i p.0 p.1) (up_or_not u p.0.to))
     where
       go : (m : Packet) → slice_get v.packets i ≡ Some m → IsAt u.packets i m → IsUpOrNot u m.to → WaitsOrTold k e c (after_go t u i) (lines ++ (single whole_step u (Single.Go i t)).lines)
       go m e1 at (Off none) = subst (λ z. WaitsOrTold k e c z (lines ++ (single whole_step u (Single.Go i t)).lines)) (sym (go_off t u i (record m { used = at.0 }) at.1 none))
@@ -270,7 +270,7 @@ module _ (t : ℕ) (C : ℕ → Type 0) (v end : World) (lt : t < 2 ^ 64) (all :
           subst (λ l. WaitsOrTold k e c (after_go t u i) (lines ++ l)) (sym ls) (subst (λ z. WaitsOrTold k e c z (lines ++ (whole_step (use_up i u) m.to (step r (Input.Came m.from m.datagram) t)).lines)) (sym is)
           (step_serves t k e c (use_up i u) lines m.to r (Input.Came m.from m.datagram) epoch (mark_up i u m.to r up) (λ z. calm u g ends i m a e1 (subst C (sym z) counted) r up) (marked_serves k e i c u lines h)))
 
-  pub settle_serves : (is : List ℕ) (u : World) → ((i : ℕ) → Among is i → Among all i) → GoesCalmly t C v [] u → LogsGoOn (settled t is u) end → is_full (settled t is u) ≡ false → (lines : List Line) →
+  pub settle_serves : (is : List ℕ) (u : World) → ((i : ℕ) → Among is i → Among all i) → GoesCalmly C v [] u → LogsGoOn (settled t is u) end → is_full (settled t is u) ≡ false → (lines : List Line) →
       WaitsOrTold k e c u lines → WaitsOrTold k e c (settled t is u) (lines ++ settle_lines t is u)
   settle_serves [] u sub g ends f lines h =
       subst (λ z. WaitsOrTold k e c z (lines ++ settle_lines t [] u)) (sym (off t u)) (subst (WaitsOrTold k e c u) (sym (append-nil lines) ∙ ap (λ l. lines ++ l) (sym (lines_off t u))) h)

@@ -1,6 +1,6 @@
 -- After two calm rounds all that was submitted is executed at each member.
 use Rattle.std.proofs.Common.{◌≡◌, ℕ, zero, suc, ◌+◌, ◌-◌, ◌<◌, ◌≤◌, List, [], ◌∷◌, ◌++◌, length, refl, sym, ◌∙◌, ap, subst, inl, inr, Bool, true, false, arith, map, unwrap_or}
-use Rattle.std.specs.Prelude.{◌⊎◌, ◌^◌, IsTrue, Some, nat_le, ◌==◌, ◌&&◌, ◌||◌, count_by}
+use Rattle.std.specs.Prelude.{◌⊎◌, IsTrue, Some, nat_le, ◌==◌, ◌&&◌, ◌||◌, count_by}
 use Rattle.std.specs.List.{list_any, list_all, range_with_len}
 use Rattle.std.specs.Option.{option_map_or}
 use Rattle.std.proofs.lemmas.Bool.{and_parts, cases_eq, eq-eqb, false≢true, le-leb, leb-true}
@@ -109,12 +109,12 @@ last_is r = go r.issued
     go [] = inl refl
     go (t ∷ ts) = inr (inl refl)
 
-module _ (n e t u : ℕ) (ms : List ℕ) (one : 1 ≤ n) (distinct : Distinct ms) (small : (k : ℕ) → Among ms k → k ≤ 14) (lt_t : t < 2 ^ 64) (v v1 v2 v3 v4 : World) (h : AllUp n e ms v)
+module _ (n e : ℕ) (t u : ℕ → ℕ) (ms : List ℕ) (one : 1 ≤ n) (distinct : Distinct ms) (small : (k : ℕ) → Among ms k → k ≤ 14) (v v1 v2 v3 v4 : World) (h : AllUp n e ms v)
     (spelt : IsSpelt n v) (spelt4 : IsSpelt n v4) (c : CalmStart e ms v) (d1 : RoundDone n e t ms v v1 v2) (d2 : RoundDone n e u ms v2 v3 v4)
-    (above : (k time : ℕ) (r : Replica) → Among ms k → IsMemberUp e ms v2 k r → Among r.issued time → time + 10 ≤ u) (below : u ≤ u64_max - 100000) where
+    (above : (k j time : ℕ) (r : Replica) → Among ms k → Among ms j → IsMemberUp e ms v2 j r → Among r.issued time → time + 10 ≤ u k) (below : (k : ℕ) → Among ms k → u k ≤ u64_max - 100000) where
   -- ---- debts at the second ticks
 
-  owed_low : (k : ℕ) (r : Replica) → Among ms k → IsMemberUp e ms v2 k r → (s : Stamp) → Among r.owed s → s.time < u
+  owed_low : (k : ℕ) (r : Replica) → Among ms k → IsMemberUp e ms v2 k r → (s : Stamp) → Among r.owed s → s.time < u k
   unfolding seat_up
   owed_low k r in_k mr s a =
       let w = (receives n e ms v2 d1.up2 k r mr).owed s a in
@@ -125,24 +125,25 @@ module _ (n e t u : ℕ) (ms : List ℕ) (one : 1 ≤ n) (distinct : Distinct ms
       let own = (facts n e ms v2 d1.up2).own k f (subst (λ z. Logged z f) (sym (seat_log n e ms v2 d1.up2 k r mr)) w.1) in
       let here = subst (λ z. Logged z f) (seat_log n e ms v2 d1.up2 f.stamp.origin m.0 m.1) own in
       let issued = (sends n e ms v2 d1.up2 f.stamp.origin m.0 m.1).own f here refl (ep ∙ sym m.1.knows) in
-      let le = above f.stamp.origin f.stamp.time m.0 o m.1 issued in
+      let le = above k f.stamp.origin f.stamp.time m.0 in_k o m.1 issued in
       let same = ap (λ (z : Stamp). z.time) w.3 in
       omega (arith, le, same)
 
-  last_low : (k : ℕ) (r : Replica) → Among ms k → IsMemberUp e ms v2 k r → last_issued r ≤ u
+  last_low : (k : ℕ) (r : Replica) → Among ms k → IsMemberUp e ms v2 k r → last_issued r ≤ u k
   last_low k r in_k mr = elim (last_is r) [
     | inl z ↦ omega (arith, z)
-    | inr a ↦ (let le = above k (last_issued r) r in_k mr a in omega (arith, le))
+    | inr a ↦ (let le = above k k (last_issued r) r in_k in_k mr a in omega (arith, le))
   ]
 
   none_owed : (k : ℕ) (r : Replica) → Among ms k → IsMemberUp e ms v3 k r → r.owed ≡ []
   none_owed k r in_k m3 =
       let o = d1.up2.member k in_k in
-      let few = few_owed n e t ms distinct small lt_t v v1 v2 h spelt c d1 k in_k o.0 o.1 in
+      let few = few_owed n e t ms distinct small v v1 v2 h spelt c d1 k in_k o.0 o.1 in
       let last = last_low k o.0 in_k o.1 in
       let is = up_one _ r (same_Some _ _ (sym (d2.ticked k o.0 in_k o.1).up ∙ m3.up)) in
+      let far = below k in_k in
       ap (λ (z : Replica). z.owed) (sym is)
-      ∙ steps_pay o.0 u o.1.runs (owed_low k o.0 in_k o.1) (omega (arith, few, last, below)) (omega (arith, few, below))
+      ∙ steps_pay o.0 (u k) o.1.runs (owed_low k o.0 in_k o.1) (omega (arith, few, last, far)) (omega (arith, few, far))
 
   -- ---- what was submitted is logged from the first round on
 
@@ -179,7 +180,7 @@ module _ (n e t u : ℕ) (ms : List ℕ) (one : 1 ≤ n) (distinct : Distinct ms
     acknowledged k j in_k in_j ne other =
         let o = d2.up1.member k in_k in
         let me = (numbers n e ms v3 d2.up1 k o.0 o.1).0 in
-        let p = paid k o.0 in_k o.1 other j (is_other n e t ms lt_t distinct small v3 k j o.0 o.1 me in_j ne) in
+        let p = paid k o.0 in_k o.1 other j (is_other n e ms distinct small v3 k j o.0 o.1 me in_j ne) in
         let at = among_place (frames_to o.0 j) (InEpoch.PrepareOk f.stamp p.0) p.1 in
         record {
           number = at.0;
@@ -190,7 +191,7 @@ module _ (n e t u : ℕ) (ms : List ℕ) (one : 1 ≤ n) (distinct : Distinct ms
         }
 
     sent4 : (x : Datagram) → Among (sent_in v3) x → Among (sent_in v4) x
-    sent4 x a = calm_sent u (λ k. Among ms k) v3 d2.goes2 x a
+    sent4 x a = calm_sent (λ k. Among ms k) v3 d2.goes2 x a
 
     module _ (j : ℕ) (q : Replica) (in_j : Among ms j) (mj : IsMemberUp e ms v4 j q) where
       cj : Counted j q (sent_in v4)

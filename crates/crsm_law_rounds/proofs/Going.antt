@@ -76,18 +76,22 @@ IsAt ps i m = (used : Bool) × (slice_get ps i ≡ Some (record m { used = used 
 pub up_one : (a b : Replica) → Site.Up a ≡ Site.Up b → a ≡ b
 up_one a b h = cc
 
-module _ (t : ℕ) (C : ℕ → Type 0) (v : World) where
-  pub calm_reached : (n : ℕ) → t < 2 ^ 64 → IsReached n v → {ts : List ℕ} {w : World} → GoesCalmly t C v ts w → IsReached n w
-  calm_reached n lt q stay = q
-  calm_reached n lt q (marks {w = w} i g) = subst (IsReached n) (silent_after w (use_up i w)) (IsReached.next (calm_reached n lt q g) (Happens.Nothing (use_up i w) (Marks.mark i Marks.none)))
-  calm_reached n lt q (by_tick {w = w} k r g e a) = subst (IsReached n) (begun_after w (whole_step w k (step r Input.Ticked t))) (IsReached.next (calm_reached n lt q g) (tick_happens t w k r lt e))
-  calm_reached n lt q (by_packet {w = w} k r from d g e s c) = subst (IsReached n) (begun_after w (whole_step w k (step r (Input.Came from d) t))) (IsReached.next (calm_reached n lt q g) (packet_happens t w k r from d lt e s))
+-- a calm step leaves a replica later in its epoch
+pub stays_later : (ticks : ℕ) (r : Replica) (x : Draft) → Stays r ticks x → IsLater ticks r x.replica
+stays_later ticks r x s = record { me = s.me; n = s.n; entries = s.entries; log = s.log; taken = s.taken; acked = s.acked; issued = s.issued; times = s.times }
 
-  pub calm_logs : t < 2 ^ 64 → {ts : List ℕ} {w : World} → GoesCalmly t C v ts w → LogsGoOn v w
-  calm_logs lt stay = λ k. same
-  calm_logs lt (marks {w = w} i g) = λ k. extends_trans (calm_logs lt g k) (subst (λ u. LogsGoOn w u) (silent_after w (use_up i w)) (moment_goes_on w _ (Happens.Nothing (use_up i w) (Marks.mark i Marks.none))) k)
-  calm_logs lt (by_tick {w = w} k r g e a) = λ j. extends_trans (calm_logs lt g j) (subst (λ u. LogsGoOn w u) (begun_after w _) (moment_goes_on w _ (tick_happens t w k r lt e)) j)
-  calm_logs lt (by_packet {w = w} k r from d g e s c) = λ j. extends_trans (calm_logs lt g j) (subst (λ u. LogsGoOn w u) (begun_after w _) (moment_goes_on w _ (packet_happens t w k r from d lt e s)) j)
+module _ (C : ℕ → Type 0) (v : World) where
+  pub calm_reached : (n : ℕ) → IsReached n v → {ts : List ℕ} {w : World} → GoesCalmly C v ts w → IsReached n w
+  calm_reached n q stay = q
+  calm_reached n q (marks {w = w} i g) = subst (IsReached n) (silent_after w (use_up i w)) (IsReached.next (calm_reached n q g) (Happens.Nothing (use_up i w) (Marks.mark i Marks.none)))
+  calm_reached n q (by_tick {w = w} k t r lt g e a) = subst (IsReached n) (begun_after w (whole_step w k (step r Input.Ticked t))) (IsReached.next (calm_reached n q g) (tick_happens t w k r lt e))
+  calm_reached n q (by_packet {w = w} k t r from d lt g e s c) = subst (IsReached n) (begun_after w (whole_step w k (step r (Input.Came from d) t))) (IsReached.next (calm_reached n q g) (packet_happens t w k r from d lt e s))
+
+  pub calm_logs : {ts : List ℕ} {w : World} → GoesCalmly C v ts w → LogsGoOn v w
+  calm_logs stay = λ k. same
+  calm_logs (marks {w = w} i g) = λ k. extends_trans (calm_logs g k) (subst (λ u. LogsGoOn w u) (silent_after w (use_up i w)) (moment_goes_on w _ (Happens.Nothing (use_up i w) (Marks.mark i Marks.none))) k)
+  calm_logs (by_tick {w = w} k t r lt g e a) = λ j. extends_trans (calm_logs g j) (subst (λ u. LogsGoOn w u) (begun_after w _) (moment_goes_on w _ (tick_happens t w k r lt e)) j)
+  calm_logs (by_packet {w = w} k t r from d lt g e s c) = λ j. extends_trans (calm_logs g j) (subst (λ u. LogsGoOn w u) (begun_after w _) (moment_goes_on w _ (packet_happens t w k r from d lt e s)) j)
 
   -- ---- what was sent
 
@@ -95,11 +99,11 @@ module _ (t : ℕ) (C : ℕ → Type 0) (v : World) where
   unfolding whole_step after_step sent_in
   sent_on w k x d h = subst (λ l. Among l d) (sym (map-append (λ (m : Packet). m.datagram) w.packets (map (packet_of k) x.sends))) (among_left (map (λ (m : Packet). m.datagram) w.packets) _ d h)
 
-  pub calm_sent : {ts : List ℕ} {w : World} → GoesCalmly t C v ts w → (d : Datagram) → Among (sent_in v) d → Among (sent_in w) d
+  pub calm_sent : {ts : List ℕ} {w : World} → GoesCalmly C v ts w → (d : Datagram) → Among (sent_in v) d → Among (sent_in w) d
   calm_sent stay d h = h
   calm_sent (marks {w = w} i g) d h = subst (λ l. Among l d) (sym (marked_sent (Marks.mark i Marks.none))) (calm_sent g d h)
-  calm_sent (by_tick {w = w} k r g e a) d h = sent_on w k _ d (calm_sent g d h)
-  calm_sent (by_packet {w = w} k r from e g q s c) d h = sent_on w k _ d (calm_sent g d h)
+  calm_sent (by_tick {w = w} k t r lt g e a) d h = sent_on w k _ d (calm_sent g d h)
+  calm_sent (by_packet {w = w} k t r from e lt g q s c) d h = sent_on w k _ d (calm_sent g d h)
 
   -- a datagram keeps its place
 
@@ -125,16 +129,13 @@ module _ (t : ℕ) (C : ℕ → Type 0) (v : World) where
   unfolding whole_step after_step
   step_keeps_at w k x j m h = (h.0, get_left w.packets (map (packet_of k) x.sends) j _ h.1)
 
-  pub calm_at : {ts : List ℕ} {w : World} → GoesCalmly t C v ts w → (j : ℕ) (m : Packet) → slice_get v.packets j ≡ Some m → IsAt w.packets j m
+  pub calm_at : {ts : List ℕ} {w : World} → GoesCalmly C v ts w → (j : ℕ) (m : Packet) → slice_get v.packets j ≡ Some m → IsAt w.packets j m
   calm_at stay j m e = (m.used, e)
   calm_at (marks {w = w} i g) j m e = mark_at i w j m (calm_at g j m e)
-  calm_at (by_tick {w = w} k r g q a) j m e = step_keeps_at w k _ j m (calm_at g j m e)
-  calm_at (by_packet {w = w} k r from d g q s c) j m e = step_keeps_at w k _ j m (calm_at g j m e)
+  calm_at (by_tick {w = w} k t r lt g q a) j m e = step_keeps_at w k _ j m (calm_at g j m e)
+  calm_at (by_packet {w = w} k t r from d lt g q s c) j m e = step_keeps_at w k _ j m (calm_at g j m e)
 
   -- ---- a replica that takes calm input
-
-  stays_later : (ticks : ℕ) (r : Replica) (x : Draft) → Stays r ticks x → IsLater ticks r x.replica
-  stays_later ticks r x s = record { me = s.me; n = s.n; entries = s.entries; log = s.log; taken = s.taken; acked = s.acked; issued = s.issued; times = s.times }
 
   moved : (ticks more k j : ℕ) (r : Replica) (w : World) (q : Replica) (x : Draft) → slice_get w.sites j ≡ Some (Site.Up q) → StaysUp ticks k r w →
       ((k ≡ j) → Stays q more x) → ((k ≡ j → ⊥) → ticks ≡ ticks + more) → StaysUp (more + ticks) k r (whole_step w j x).after
@@ -159,15 +160,15 @@ module _ (t : ℕ) (C : ℕ → Type 0) (v : World) where
     | inr ne ↦ (let c = count_other j k ts ne in let t0 = ap {B = ℕ} (λ (b : Bool). cond b 1 0) (ne_eqb j k ne) in omega (arith, c, t0))
   ]
 
-  pub calm_later : (k : ℕ) (r : Replica) → C k → slice_get v.sites k ≡ Some (Site.Up r) → {ts : List ℕ} {w : World} → GoesCalmly t C v ts w → StaysUp (count_by (λ j. j == k) ts) k r w
+  pub calm_later : (k : ℕ) (r : Replica) → C k → slice_get v.sites k ≡ Some (Site.Up r) → {ts : List ℕ} {w : World} → GoesCalmly C v ts w → StaysUp (count_by (λ j. j == k) ts) k r w
   calm_later k r c e stay = record { replica = r; up = e; later = later_self r }
   calm_later k r c e (marks {w = w} i g) = let h = calm_later k r c e g in record { replica = h.replica; up = ap (λ ss. slice_get ss k) (mark_sites i w) ∙ h.up; later = h.later }
-  calm_later k r c e (by_tick {ticks = ts} {w = w} j q g p a) =
+  calm_later k r c e (by_tick {ticks = ts} {w = w} j t q lt g p a) =
       subst (λ i. StaysUp i k r (whole_step w j (step q Input.Ticked t)).after) (sym (count_more k j ts))
       (moved (count_by (λ i. i == k) ts) (cond (j == k) 1 0) k j r w q (step q Input.Ticked t) p (calm_later k r c e g)
       (λ is. subst (λ i. Stays q i (step q Input.Ticked t)) (sym (ap {B = ℕ} (λ (b : Bool). cond b 1 0) (eq-eqb j k (sym is)))) (steps_stay q Input.Ticked t a))
       (λ ne. let z = ap {B = ℕ} (λ (b : Bool). cond b 1 0) (ne_eqb j k (λ s. ne (sym s))) in omega (arith, z)))
-  calm_later k r c e (by_packet {ticks = ts} {w = w} j q from d g p s calm) =
+  calm_later k r c e (by_packet {ticks = ts} {w = w} j t q from d lt g p s calm) =
       let count = count_by (λ i. i == k) ts in
       let none : 0 + count ≡ count = omega arith in
       subst (λ i. StaysUp i k r (whole_step w j (step q (Input.Came from d) t)).after) none

@@ -7,7 +7,9 @@ pub mod Round
 pub mod Pigeons
 pub mod Executed
 pub mod Spreading
+pub mod Starting
 pub mod Finishing
+pub mod Waiting
 pub mod Hearing
 pub mod Parts
 pub mod Answered

@@ -8,8 +8,8 @@ use Rattle.std.proofs.lemmas.Option.{same_Some}
 use Rattle.crsm_base.specs.Messages.{control_bytes, FitsControl}
 use Rattle.crsm_spec.specs.Types.{Decision, Datagram, Control}
 use Rattle.crsm_spec.specs.Lists.{Among}
-use Rattle.crsm_spec.specs.Log.{decision, boots, active}
-use Rattle.crsm_spec.specs.Parts.{cut}
+use Rattle.crsm_spec.specs.Log.{known, decision, boots, active}
+use Rattle.crsm_spec.specs.Parts.{Piece, cut}
 use Rattle.crsm_spec.specs.Replica.{Replica}
 use Rattle.crsm_spec.specs.Draft.{Draft, begun, parts_to}
 use Rattle.crsm_spec.specs.Step.{Input, step}
@@ -42,20 +42,20 @@ use Rattle.crsm_law_rounds.proofs.Growing.{grows_decision}
 use Rattle.crsm_law_rounds.proofs.Going.{IsAt, up_one, calm_reached, calm_at, site_after, other_site, packets_after, mark_sites, packet_happens}
 use Rattle.crsm_law_rounds.proofs.Ticks.{tick, tick_up, tick_other, ticks, AllActive, IsUpOrNot, Up, Off, up_or_not}
 use Rattle.crsm_law_rounds.proofs.Settling.{after_go, go_up, go_off, mark_up, mark_sent, go_logs, logs_then, settled, settle_logs, go_calmly, room, on, off}
-use Rattle.crsm_law_rounds.proofs.Hearing.{ToldMildly}
+use Rattle.crsm_law_rounds.proofs.Hearing.{ToldMildly, whole_is_mild}
 
 -- ---- what was sent stays sent
 
-pub sent_calm : (t : ℕ) (C : ℕ → Type 0) (u w : World) (ts : List ℕ) → GoesCalmly t C u ts w → (from to : ℕ) (d : Datagram) → WasSent u from to d → WasSent w from to d
-sent_calm t C u w ts g from to d h =
+pub sent_calm : (C : ℕ → Type 0) (u w : World) (ts : List ℕ) → GoesCalmly C u ts w → (from to : ℕ) (d : Datagram) → WasSent u from to d → WasSent w from to d
+sent_calm C u w ts g from to d h =
     let m : Packet = record { from = from; to = to; datagram = d; used = h.0 } in
     let at = among_place u.packets m h.1 in
-    let now = calm_at t C u g at.0 m at.1 in
+    let now = calm_at C u g at.0 m at.1 in
     (now.0, got_among w.packets at.0 _ now.1)
 
-pub told_calm : (t e : ℕ) (C : ℕ → Type 0) (u w : World) (ts : List ℕ) → GoesCalmly t C u ts w → (from to boot number count : ℕ) → ToldMildly e u from to boot number count → ToldMildly e w from to boot number count
-told_calm t e C u w ts g from to boot number count h =
-    record { message = h.message; mild = h.mild; fits = h.fits; count_is = h.count_is; parts = λ i lt. sent_calm t C u w ts g from to _ (h.parts i lt) }
+pub told_calm : (e : ℕ) (C : ℕ → Type 0) (u w : World) (ts : List ℕ) → GoesCalmly C u ts w → (from to boot number count : ℕ) → ToldMildly e u from to boot number count → ToldMildly e w from to boot number count
+told_calm e C u w ts g from to boot number count h =
+    record { message = h.message; mild = h.mild; fits = h.fits; count_is = h.count_is; parts = λ i lt. sent_calm C u w ts g from to _ (h.parts i lt) }
 
 -- each part that was not delivered yet is one of a mild message
 abbrev pub MildPackets : ℕ → World → Type 0
@@ -101,7 +101,7 @@ part_form r k c s m =
     let t = among_unmap (λ (p : ℕ × List ℕ). (k, Datagram.Part r.me k (boots r.log) r.made p.0 (length (cut (control_bytes c))) p.1)) (enumerate_from 0 (cut (control_bytes c))) s m in
     (t.0, t.2)
 
-not_part : (d : Datagram) → IsOfLink d → (from to boot number index count : ℕ) (bytes : List ℕ) → d ≡ Datagram.Part from to boot number index count bytes → ⊥
+pub not_part : (d : Datagram) → IsOfLink d → (from to boot number index count : ℕ) (bytes : List ℕ) → d ≡ Datagram.Part from to boot number index count bytes → ⊥
 not_part d h from to boot number index count bytes e = subst IsOfLink e h
 
 packet_is : (k : ℕ) (s : ℕ × Datagram) → packet_of k s ≡ record { from = k; to = s.0; datagram = s.1; used = false }
@@ -151,23 +151,17 @@ begun_me : (r : Replica) → ((begun r).replica.me ≡ r.me) × (boots (begun r)
 unfolding begun
 begun_me r = (refl, refl, refl)
 
--- a step of replica k, which is r, on a datagram that is used from now on
-module _ (n e t : ℕ) (u : World) (reached : IsReached n u) (i : ℕ) (k : ℕ) (r : Replica) (up : slice_get (use_up i u).sites k ≡ Some (Site.Up r)) (lt : t < 2 ^ 64) (from : ℕ) (d : Datagram)
-    (came : WasSent (use_up i u) from k d) where
-  abbrev w : World
-  w = use_up i u
-
+-- a step of replica k, which is r, on a datagram
+module _ (n e t : ℕ) (w : World) (reached : IsReached n w) (k : ℕ) (r : Replica) (up : slice_get w.sites k ≡ Some (Site.Up r)) (lt : t < 2 ^ 64) (from : ℕ) (d : Datagram)
+    (came : WasSent w from k d) where
   abbrev x : Draft
   x = step r (Input.Came from d) t
 
   abbrev after : World
   after = (whole_step w k x).after
 
-  reached_w : IsReached n w
-  reached_w = calm_reached t (λ j. ⊥) u n lt reached (marks i stay)
-
   me : r.me ≡ k
-  me = (up_numbers n w reached_w k r up).0
+  me = (up_numbers n w reached k r up).0
 
   fits_known : IsSpelt n after → (c : Control) → IsKnown r c → FitsControl c
   fits_known spelt c known =
@@ -176,7 +170,7 @@ module _ (n e t : ℕ) (u : World) (reached : IsReached n u) (i : ℕ) (k : ℕ)
       spelt.messages s (record {
         past = record {
           world = w;
-          reached = reached_w;
+          reached = reached;
           marked = w;
           marks = Marks.none;
           replica = r;
@@ -197,8 +191,8 @@ module _ (n e t : ℕ) (u : World) (reached : IsReached n u) (i : ℕ) (k : ℕ)
         sent = record { from = b.0 ∙ me; boot = b.1; number = b.2; is = told_now r c known; answers = answers_nothing r (Input.Came from d) c known };
       })
 
-  goes : GoesCalmly t (λ j. ⊥) u [] after
-  goes = by_packet k r from d (marks i stay) up came (λ c. absurd c)
+  goes : GoesCalmly (λ j. ⊥) w [] after
+  goes = by_packet k t r from d lt stay up came (λ c. absurd c)
 
   -- what the step has sent was sent
   sent_now : (s : ℕ × Datagram) → Among x.sends s → WasSent after k s.0 s.1
@@ -233,21 +227,21 @@ module _ (n e t : ℕ) (u : World) (reached : IsReached n u) (i : ℕ) (k : ℕ)
           (a ≡ a2) × (b ≡ b2) × (c ≡ c2) × (y ≡ y2) × (l ≡ l2)
       same_part a b c y i l ps a2 b2 c2 y2 i2 l2 ps2 h = (cc, cc, cc, cc, cc)
 
-  pub packets_stay_mild : IsSpelt n after → LowDecisions e u → TellsLittle r x → MildPackets e u → MildPackets e after
+  pub packets_stay_mild : IsSpelt n after → LowDecisions e w → TellsLittle r x → MildPackets e w → MildPackets e after
   packets_stay_mild spelt low tells mild m a fresh fr to boot number index count bytes is =
       elim (among_either w.packets (map (packet_of k) x.sends) m (subst (λ l. Among l m) (packets_after w k x) a)) [
-        | inl old ↦ (let t1 = mild m (fresh_before i u m old fresh) fresh fr to boot number index count bytes is in
-            (t1.0, told_calm t e (λ j. ⊥) u after [] goes fr to boot number count t1.1))
+        | inl old ↦ (let t1 = mild m old fresh fr to boot number index count bytes is in
+            (t1.0, told_calm e (λ j. ⊥) w after [] goes fr to boot number count t1.1))
         | inr new ↦ (let s = among_unmap (packet_of k) x.sends m new in
             let form = sym (packet_is k s.0) ∙ s.2 in
             let d1 : s.0.1 ≡ Datagram.Part fr to boot number index count bytes = ap (λ (z : Packet). z.datagram) form ∙ is in
-            let t1 = new_told spelt (low k r (subst (λ ss. slice_get ss k ≡ Some (Site.Up r)) (mark_sites i u) up)) tells s.0 s.1 fr to boot number index count bytes d1 in
+            let t1 = new_told spelt (low k r up) tells s.0 s.1 fr to boot number index count bytes d1 in
             (ap (λ (z : Packet). z.to) (sym form) ∙ t1.0, t1.1))
       ]
 
 -- ---- decisions
 
-low_after : (e : ℕ) (w : World) (k : ℕ) (r : Replica) (x : Draft) → slice_get w.sites k ≡ Some (Site.Up r) → decision x.replica.log ≡ decision r.log → LowDecisions e w → LowDecisions e (whole_step w k x).after
+pub low_after : (e : ℕ) (w : World) (k : ℕ) (r : Replica) (x : Draft) → slice_get w.sites k ≡ Some (Site.Up r) → decision x.replica.log ≡ decision r.log → LowDecisions e w → LowDecisions e (whole_step w k x).after
 low_after e w k r x up kept low j q at d is = elim (cases_eq j k) [
   | inl at_k ↦ (let one = up_one x.replica q (same_Some _ _ (sym (site_after w k (Site.Up r) x up) ∙ subst (λ z. slice_get (whole_step w k x).after.sites z ≡ Some (Site.Up q)) at_k at)) in
       low k r up d (sym kept ∙ ap (λ (z : Replica). decision z.log) one ∙ is))
@@ -287,9 +281,9 @@ tick_sends t w k r a m h = elim (among_either w.packets (map (packet_of k) x.sen
 pub no_parts_after : (t : ℕ) (w : World) (k : ℕ) (r : Replica) → IsTrue (active r.log) → NoParts w → NoParts (whole_step w k (step r Input.Ticked t)).after
 no_parts_after t w k r a h m mem fresh p = elim (tick_sends t w k r a m mem) [ inl old ↦ h m old fresh p | inr link ↦ link_no_part m.datagram link p ]
 
-pub mild_after_tick : (t e : ℕ) (w : World) (k : ℕ) (r : Replica) → slice_get w.sites k ≡ Some (Site.Up r) → IsTrue (active r.log) → MildPackets e w → MildPackets e (whole_step w k (step r Input.Ticked t)).after
-mild_after_tick t e w k r up a h m mem fresh from to boot number index count bytes is = elim (tick_sends t w k r a m mem) [
-  | inl old ↦ (let o = h m old fresh from to boot number index count bytes is in (o.0, told_calm t e (λ j. ⊥) w _ (k ∷ []) (by_tick k r stay up a) from to boot number count o.1))
+pub mild_after_tick : (t e : ℕ) → t < 2 ^ 64 → (w : World) (k : ℕ) (r : Replica) → slice_get w.sites k ≡ Some (Site.Up r) → IsTrue (active r.log) → MildPackets e w → MildPackets e (whole_step w k (step r Input.Ticked t)).after
+mild_after_tick t e lt w k r up a h m mem fresh from to boot number index count bytes is = elim (tick_sends t w k r a m mem) [
+  | inl old ↦ (let o = h m old fresh from to boot number index count bytes is in (o.0, told_calm e (λ j. ⊥) w _ (k ∷ []) (by_tick k t r lt stay up a) from to boot number count o.1))
   | inr link ↦ absurd (not_part m.datagram link from to boot number index count bytes is)
 ]
 
@@ -311,7 +305,7 @@ ticks_keep P t (k ∷ ks) w d one a p =
 -- ---- the settle of the first round
 
 -- a datagram between replicas that is no part is a frame or an Ack
-between_link : (d : Datagram) → IsBetween d → (IsPart d → ⊥) → IsOfLink d
+pub between_link : (d : Datagram) → IsBetween d → (IsPart d → ⊥) → IsOfLink d
 between_link (Datagram.Frame from to e seq p) b n = tt
 between_link (Datagram.Ack from to e next) b n = tt
 between_link (Datagram.Part from to boot number index count bytes) b n = absurd (n tt)
@@ -330,38 +324,52 @@ link_calm r a (Datagram.Request c) h = absurd h
 link_calm r a (Datagram.Reply client number told) h = absurd h
 link_calm r a (Datagram.Operate ms) h = absurd h
 
+-- a datagram between replicas is calm input where it is a part only of a mild message
+pub between_calm : (n e : ℕ) (w : World) → IsReached n w → (k : ℕ) (r : Replica) → slice_get w.sites k ≡ Some (Site.Up r) → known r.log ≡ e → (a : ℕ) (d : Datagram) → WasSent w a k d → IsBetween d →
+    ((from to boot number index count : ℕ) (bytes : List ℕ) → d ≡ Datagram.Part from to boot number index count bytes → (k ≡ to) × ToldMildly e w from to boot number count) → IsCalmInput r (Input.Came a d)
+between_calm n e w q k r up knows a (Datagram.Frame from to x seq p) came b h = tt
+between_calm n e w q k r up knows a (Datagram.Ack from to x next) came b h = tt
+between_calm n e w q k r up knows a (Datagram.Part from to boot number index count bytes) came b h =
+    let told = h from to boot number index count bytes refl in
+    let p : Piece = record { from = from; boot = boot; number = number; index = index; count = count; bytes = bytes } in
+    λ message c whole read. subst (λ z. IsMild z c) (sym knows)
+    (whole_is_mild n e w q to r (subst (λ z. slice_get w.sites z ≡ Some (Site.Up r)) told.0 up) a p (subst (λ z. WasSent w a z (Datagram.Part from to boot number index count bytes)) told.0 came) told.1 message c whole read)
+between_calm n e w q k r up knows a (Datagram.Request c) came b h = absurd b
+between_calm n e w q k r up knows a (Datagram.Reply client number told) came b h = absurd b
+between_calm n e w q k r up knows a (Datagram.Operate ms) came b h = absurd b
+
 -- what holds along that settle
 pub record StaysMild (e : ℕ) (u : World) : Type 0 where
   pub packets : MildPackets e u
   pub low : LowDecisions e u
 
-mild_marked : (t e i : ℕ) (u : World) → MildPackets e u → MildPackets e (use_up i u)
-mild_marked t e i u mild m a fresh from to boot number index count bytes is =
+mild_marked : (e i : ℕ) (u : World) → MildPackets e u → MildPackets e (use_up i u)
+mild_marked e i u mild m a fresh from to boot number index count bytes is =
     let o = mild m (fresh_before i u m a fresh) fresh from to boot number index count bytes is in
-    (o.0, told_calm t e (λ j. ⊥) u (use_up i u) [] (marks i stay) from to boot number count o.1)
+    (o.0, told_calm e (λ j. ⊥) u (use_up i u) [] (marks i stay) from to boot number count o.1)
 
 module _ (n e t : ℕ) (lt : t < 2 ^ 64) (v end : World) (spelt_at : (w : World) → IsReached n w → LogsGoOn w end → IsSpelt n w) (reached : IsReached n v) (all : List ℕ)
     (packets : (i : ℕ) → Among all i → (m : Packet) × (slice_get v.packets i ≡ Some m) × IsOfLink m.datagram) where
   abbrev G : World → Type 0
-  G u = GoesCalmly t (λ k. Unit {0}) v [] u
+  G u = GoesCalmly (λ k. Unit {0}) v [] u
 
   one_mild : (u : World) → G u → (i : ℕ) → Among all i → LogsGoOn (after_go t u i) end → StaysMild e u → StaysMild e (after_go t u i)
-  one_mild u g i a ends h = (let p = packets i a in go p.0 p.2 (calm_at t (λ k. Unit {0}) v g i p.0 p.1) (up_or_not u p.0.to))
+  one_mild u g i a ends h = (let p = packets i a in go p.0 p.2 (calm_at (λ k. Unit {0}) v g i p.0 p.1) (up_or_not u p.0.to))
     where
       go : (m : Packet) → IsOfLink m.datagram → IsAt u.packets i m → IsUpOrNot u m.to → StaysMild e (after_go t u i)
-      go m link at (Off none) = subst (StaysMild e) (sym (go_off t u i (record m { used = at.0 }) at.1 none)) (record { packets = mild_marked t e i u h.packets; low = low_marked e i u h.low })
+      go m link at (Off none) = subst (StaysMild e) (sym (go_off t u i (record m { used = at.0 }) at.1 none)) (record { packets = mild_marked e i u h.packets; low = low_marked e i u h.low })
       go m link at (Up r up) =
           let is = go_up t u i (record m { used = at.0 }) r at.1 up in
           let up2 = mark_up i u m.to r up in
           let came = mark_sent u i m at in
-          let q = calm_reached t (λ k. Unit {0}) v n lt reached g in
+          let q = calm_reached (λ k. Unit {0}) v n reached (marks i g) in
           let x = step r (Input.Came m.from m.datagram) t in
           let next = (whole_step (use_up i u) m.to x).after in
-          let q_next = calm_reached t (λ j. ⊥) u n lt q (by_packet m.to r m.from m.datagram (marks i stay) up2 came (λ c. absurd c)) in
+          let q_next = calm_reached (λ j. ⊥) (use_up i u) n q (by_packet m.to t r m.from m.datagram lt stay up2 came (λ c. absurd c)) in
           let spelt = spelt_at next q_next (subst (λ z. LogsGoOn z end) is ends) in
           let s = steps_stay r (Input.Came m.from m.datagram) t (link_calm r m.from m.datagram link) in
           subst (StaysMild e) (sym is) (record {
-            packets = packets_stay_mild n e t u q i m.to r up2 lt m.from m.datagram came spelt h.low (links_tell_little.on_link r (Input.Came m.from m.datagram) t link) h.packets;
+            packets = packets_stay_mild n e t (use_up i u) q m.to r up2 lt m.from m.datagram came spelt (low_marked e i u h.low) (links_tell_little.on_link r (Input.Came m.from m.datagram) t link) (mild_marked e i u h.packets);
             low = low_after e (use_up i u) m.to r x up2 (grows_decision r.me s.log) (low_marked e i u h.low);
           })
 

@@ -124,11 +124,11 @@ go_logs t lt u i = go (slice_get u.packets i) refl
 
     by_receiver : (m : Packet) → slice_get u.packets i ≡ Some m → IsUpOrNot u m.to → LogsGoOn u (after_go t u i)
     by_receiver m e (Up r q) = subst (LogsGoOn u) (sym (go_up t u i m r e q))
-        (calm_logs t (λ k. ⊥) u lt (by_packet m.to r m.from m.datagram (marks i stay) (mark_up i u m.to r q) (mark_sent u i m (m.used, e)) (λ c. absurd c)))
-    by_receiver m e (Off n) = subst (LogsGoOn u) (sym (go_off t u i m e n)) (calm_logs t (λ k. ⊥) u lt (marks i stay))
+        (calm_logs (λ k. ⊥) u (by_packet m.to t r m.from m.datagram lt (marks i stay) (mark_up i u m.to r q) (mark_sent u i m (m.used, e)) (λ c. absurd c)))
+    by_receiver m e (Off n) = subst (LogsGoOn u) (sym (go_off t u i m e n)) (calm_logs (λ k. ⊥) u (marks i stay))
 
     go : (o : Option Packet) → slice_get u.packets i ≡ o → LogsGoOn u (after_go t u i)
-    go None e = subst (LogsGoOn u) (sym (go_none t u i e)) (calm_logs t (λ k. ⊥) u lt (marks i stay))
+    go None e = subst (LogsGoOn u) (sym (go_none t u i e)) (calm_logs (λ k. ⊥) u (marks i stay))
     go (Some m) e = by_receiver m e (up_or_not u m.to)
 
 pub logs_then : (u v w : World) → LogsGoOn u v → LogsGoOn v w → LogsGoOn u w
@@ -150,18 +150,18 @@ settle_logs t lt (i ∷ is) u = go (is_full u) refl (settle_logs t lt is (after_
 
 module _ (t : ℕ) (C : ℕ → Type 0) (v end : World) (lt : t < 2 ^ 64) (all : List ℕ)
     (packets : (i : ℕ) → Among all i → (m : Packet) × (slice_get v.packets i ≡ Some m))
-    (calm : (u : World) → GoesCalmly t C v [] u → LogsGoOn u end → (i : ℕ) (m : Packet) → Among all i → slice_get v.packets i ≡ Some m → C m.to → (r : Replica) →
+    (calm : (u : World) → GoesCalmly C v [] u → LogsGoOn u end → (i : ℕ) (m : Packet) → Among all i → slice_get v.packets i ≡ Some m → C m.to → (r : Replica) →
     slice_get u.sites m.to ≡ Some (Site.Up r) → IsCalmInput r (Input.Came m.from m.datagram)) where
   abbrev G : World → Type 0
-  G u = GoesCalmly t C v [] u
+  G u = GoesCalmly C v [] u
 
   -- one of them goes
   pub go_calmly : (u : World) → G u → LogsGoOn u end → (i : ℕ) → Among all i → G (after_go t u i)
-  go_calmly u g ends i a = (let p = packets i a in go p.0 p.1 (calm_at t C v g i p.0 p.1) (up_or_not u p.0.to))
+  go_calmly u g ends i a = (let p = packets i a in go p.0 p.1 (calm_at C v g i p.0 p.1) (up_or_not u p.0.to))
     where
       go : (m : Packet) → slice_get v.packets i ≡ Some m → IsAt u.packets i m → IsUpOrNot u m.to → G (after_go t u i)
       go m e h (Up r q) =
-          subst G (sym (go_up t u i (record m { used = h.0 }) r h.1 q)) (by_packet m.to r m.from m.datagram (marks i g) (mark_up i u m.to r q) (mark_sent u i m h)
+          subst G (sym (go_up t u i (record m { used = h.0 }) r h.1 q)) (by_packet m.to t r m.from m.datagram lt (marks i g) (mark_up i u m.to r q) (mark_sent u i m h)
           (λ c. calm u g ends i m a e c r q))
       go m e h (Off n) = subst G (sym (go_off t u i (record m { used = h.0 }) h.1 n)) (marks i g)
 

@@ -1,6 +1,6 @@
 -- After one calm round each member has logged what was submitted, and its links are short.
-use Rattle.std.proofs.Common.{◌≡◌, ℕ, ◌+◌, ◌<◌, ◌≤◌, List, [], length, refl, sym, ◌∙◌, ap, subst, inl, inr, true, arith, length-append}
-use Rattle.std.specs.Prelude.{◌^◌, IsTrue, Some, slice_get, Contains, count_by, ◌==◌}
+use Rattle.std.proofs.Common.{◌≡◌, ℕ, ◌+◌, ◌≤◌, List, [], length, refl, sym, ◌∙◌, ap, subst, inl, inr, true, arith, length-append}
+use Rattle.std.specs.Prelude.{IsTrue, Some, slice_get, Contains, count_by, ◌==◌}
 use Rattle.std.specs.List.{enumerate_from}
 use Rattle.std.proofs.lemmas.Bool.{cases_eq}
 use Rattle.std.proofs.lemmas.Option.{same_Some}
@@ -11,6 +11,7 @@ use Rattle.crsm_spec.specs.Types.{Entry, Rec, InEpoch, Datagram}
 use Rattle.crsm_spec.specs.Lists.{Among, has}
 use Rattle.crsm_spec.specs.Log.{known, members, active, executed}
 use Rattle.crsm_spec.specs.Replica.{Replica, other_members, frames_to, next_from, acked_by, unacked}
+use Rattle.crsm_spec.specs.Step.{Input, step}
 use Rattle.crsm_spec.specs.World.{Site, World, log_at}
 use Rattle.crsm_spec.specs.Calm.{IsOpen}
 use Rattle.crsm_fact_log.specs.Logs.{Logged}
@@ -22,10 +23,11 @@ use Rattle.crsm_law_epoch.proofs.Worlds.{log_there}
 use Rattle.crsm_law_agreement.proofs.Choice.{contains_among}
 use Rattle.crsm_law_bounds.specs.Bounds.{IsSpelt}
 use Rattle.crsm_law_runs.proofs.DurableLists.{among_contains}
+use Rattle.crsm_law_active.proofs.Staying.{steps_stay}
 use Rattle.crsm_law_rounds.specs.Rounds.{GoesCalmly}
 use Rattle.crsm_law_rounds.specs.Members.{IsMemberUp, AllUp}
 use Rattle.crsm_law_rounds.proofs.Growing.{IsLater, later_then, logged_on, grows_extends, grows_own, grows_new, grows_epoch, grows_set, acked_later, IsSet}
-use Rattle.crsm_law_rounds.proofs.Going.{up_one, calm_later, calm_sent}
+use Rattle.crsm_law_rounds.proofs.Going.{up_one, stays_later, calm_later, calm_sent}
 use Rattle.crsm_law_rounds.proofs.Links.{facts, numbers, seat_log, sends, receives, counted, fit, members_are, origin_member, sent_at}
 use Rattle.crsm_law_rounds.proofs.Round.{RoundDone, other_is, is_other}
 use Rattle.crsm_law_rounds.proofs.Pigeons.{pigeons}
@@ -52,25 +54,28 @@ were_then e ms a b u v w p q k r m x =
     record { replica = z.replica; was = z.was; ticks = y.ticks + z.ticks; few = (let i = y.few in let j = z.few in omega (arith, i, j)); later = later_then z.later y.later }
 
 -- by calm moments in which each ticks so often at most
-pub were_calm : (n e t : ℕ) (ms : List ℕ) (v w : World) (ts : List ℕ) (most : ℕ) → AllUp n e ms v → GoesCalmly t (λ k. Among ms k) v ts w → ((j : ℕ) → count_by (λ i. i == j) ts ≤ most) → AllWere e ms most v w
-were_calm n e t ms v w ts most h g once k r m x =
+pub were_calm : (n e : ℕ) (ms : List ℕ) (v w : World) (ts : List ℕ) (most : ℕ) → AllUp n e ms v → GoesCalmly (λ k. Among ms k) v ts w → ((j : ℕ) → count_by (λ i. i == j) ts ≤ most) → AllWere e ms most v w
+were_calm n e ms v w ts most h g once k r m x =
     let o = h.member k m in
-    let s = calm_later t (λ k. Among ms k) v k o.0 m o.1.up g in
+    let s = calm_later (λ k. Among ms k) v k o.0 m o.1.up g in
     let one = up_one s.replica r (same_Some _ _ (sym s.up ∙ x.up)) in
     record { replica = o.0; was = o.1; ticks = count_by (λ i. i == k) ts; few = once k; later = subst (IsLater (count_by (λ i. i == k) ts) o.0) one s.later }
 
 none_ticks : (j : ℕ) → count_by (λ i. i == j) [] ≤ 0
 none_ticks j = omega arith
 
-module _ (n e t : ℕ) (ms : List ℕ) (v v1 v2 : World) (h : AllUp n e ms v) (d : RoundDone n e t ms v v1 v2) where
+module _ (n e : ℕ) (t : ℕ → ℕ) (ms : List ℕ) (v v1 v2 : World) (h : AllUp n e ms v) (d : RoundDone n e t ms v v1 v2) where
   pub were1 : AllWere e ms 1 v v1
-  were1 = were_calm n e t ms v v1 d.ticks_in 1 h d.goes1 d.once
+  were1 k r m x =
+      let o = h.member k m in
+      let one = up_one _ r (same_Some _ _ (sym (d.ticked k o.0 m o.1).up ∙ x.up)) in
+      record { replica = o.0; was = o.1; ticks = 1; few = omega arith; later = subst (IsLater 1 o.0) one (stays_later 1 o.0 (step o.0 Input.Ticked (t k)) (steps_stay o.0 Input.Ticked (t k) o.1.runs)) }
 
   pub were2 : AllWere e ms (0 + 1) v v2
-  were2 = were_then e ms 1 0 v v1 v2 were1 (were_calm n e t ms v1 v2 [] 0 d.up1 d.goes2 none_ticks)
+  were2 = were_then e ms 1 0 v v1 v2 were1 (were_calm n e ms v1 v2 [] 0 d.up1 d.goes2 none_ticks)
 
   pub sent_on : (x : Datagram) → Among (sent_in v1) x → Among (sent_in v2) x
-  sent_on x a = calm_sent t (λ k. Among ms k) v1 d.goes2 x a
+  sent_on x a = calm_sent (λ k. Among ms k) v1 d.goes2 x a
 
 -- ---- entries
 
@@ -94,7 +99,7 @@ was_submitted n e ms most v w hv hw were k r m mr f l ep =
     let me = (numbers n e ms v hv f.stamp.origin b.replica b.was).0 in
     record { epoch = ep; member = member; replica = b.replica; up = b.was; logged = grows_own b.replica.me b.later.log f (sym me) here }
 
-module _ (n e t : ℕ) (ms : List ℕ) (v v1 v2 : World) (h : AllUp n e ms v) (d : RoundDone n e t ms v v1 v2) where
+module _ (n e : ℕ) (t : ℕ → ℕ) (ms : List ℕ) (v v1 v2 : World) (h : AllUp n e ms v) (d : RoundDone n e t ms v v1 v2) where
   -- Each member has logged, after the round, what was submitted before.
   pub spreads : (f : Entry) → IsSubmitted e ms v f → (j : ℕ) (q : Replica) → Among ms j → IsMemberUp e ms v2 j q → Logged q.log f
   unfolding seat_up pushed_to frames_to taken_of next_from
@@ -136,7 +141,7 @@ unacked_length r j le =
     let b = length-enumerate_from 0 (frames_to r j) in
     omega (arith, a, b, le)
 
-module _ (n e t : ℕ) (ms : List ℕ) (distinct : Distinct ms) (small : (k : ℕ) → Among ms k → k ≤ 14) (lt : t < 2 ^ 64) (v v1 v2 : World) (h : AllUp n e ms v) (spelt : IsSpelt n v) (c : CalmStart e ms v)
+module _ (n e : ℕ) (t : ℕ → ℕ) (ms : List ℕ) (distinct : Distinct ms) (small : (k : ℕ) → Among ms k → k ≤ 14) (v v1 v2 : World) (h : AllUp n e ms v) (spelt : IsSpelt n v) (c : CalmStart e ms v)
     (d : RoundDone n e t ms v v1 v2) (k : ℕ) (in_k : Among ms k) (r2 : Replica) (m2 : IsMemberUp e ms v2 k r2) where
   was : WasMember e ms (0 + 1) v k r2
   was = were2 n e t ms v v1 v2 h d k r2 in_k m2
@@ -194,9 +199,9 @@ module _ (n e t : ℕ) (ms : List ℕ) (distinct : Distinct ms) (small : (k : �
   pub short_link : (j : ℕ) → Among (other_members r2) j → length (unacked r2 j) ≤ 49
   short_link j o =
       let mine = numbers n e ms v2 d.up2 k r2 m2 in
-      let other = other_is n e t ms lt distinct small v2 k j r2 m2 mine.0 o in
+      let other = other_is n e ms distinct small v2 k j r2 m2 mine.0 o in
       let in_j = other.0 in
-      let o1 = is_other n e t ms lt distinct small v k j r was.was (numbers n e ms v h k r was.was).0 in_j other.1 in
+      let o1 = is_other n e ms distinct small v k j r was.was (numbers n e ms v h k r was.was).0 in_j other.1 in
       let even2 = (counted n e ms v2 d.up2 k r2 m2).even j o in
       let even1 = (counted n e ms v h k r was.was).even j o1 in
       let l2 = unacked_length r2 j ((counted n e ms v2 d.up2 k r2 m2).pushed j) in

@@ -1,6 +1,6 @@
 -- The ticks of a calm round.
-use Rattle.std.proofs.Common.{◌≡◌, ℕ, suc, ◌+◌, ◌≤◌, List, [], ◌∷◌, ◌++◌, length, refl, sym, ◌∙◌, ap, subst, inl, inr, Bool, true, false, cond, arith, map, append_assoc}
-use Rattle.std.specs.Prelude.{IsTrue, Option, Some, None, slice_get, filter, not, ◌&&◌, ◌==◌, count_by}
+use Rattle.std.proofs.Common.{◌≡◌, ℕ, suc, ◌+◌, ◌<◌, ◌≤◌, List, [], ◌∷◌, ◌++◌, length, refl, sym, ◌∙◌, ap, subst, inl, inr, Bool, true, false, cond, arith, map, append_assoc}
+use Rattle.std.specs.Prelude.{◌^◌, IsTrue, Option, Some, None, slice_get, filter, not, ◌&&◌, ◌==◌}
 use Rattle.std.specs.List.{enumerate_from}
 use Rattle.std.proofs.lemmas.Bool.{cases_eq, eq-eqb, ne_eqb, false≢true}
 use Rattle.std.proofs.lemmas.Option.{none-some, same_Some}
@@ -15,7 +15,6 @@ use Rattle.crsm_spec.specs.Acts.{Single, Act}
 use Rattle.crsm_spec.specs.Moments.{silent, step_at_site, step_at, single, deliverable, moments_of, world_after, act}
 use Rattle.crsm_spec.specs.Run.{after_acts}
 use Rattle.crsm_law_epoch.specs.Numbers.{Distinct}
-use Rattle.crsm_law_epoch.proofs.Words.{count_same, count_other}
 use Rattle.crsm_law_active.specs.Again.{sent_to, frame_of}
 use Rattle.crsm_law_rounds.specs.Rounds.{GoesCalmly, IsFrameAt, Carries}
 use Rattle.crsm_law_rounds.specs.Rounds.GoesCalmly.{by_tick}
@@ -136,43 +135,22 @@ tick_of t (i ∷ ks) w k r d (inr m) e =
 
 -- ---- the ticks as calm moments
 
-pub record HaveTicked (t : ℕ) (C : ℕ → Type 0) (v : World) (ks ts : List ℕ) (w : World) : Type 0 where
+pub record HaveTicked (t : ℕ) (C : ℕ → Type 0) (v : World) (ks : List ℕ) (w : World) : Type 0 where
   pub all : List ℕ
-  pub goes : GoesCalmly t C v all (ticks t ks w)
-  pub counts : (j : ℕ) → count_by (λ i. i == j) all ≡ count_by (λ i. i == j) ks + count_by (λ i. i == j) ts
+  pub goes : GoesCalmly C v all (ticks t ks w)
 
 abbrev pub AllActive : List ℕ → World → Type 0
 AllActive ks w = (k : ℕ) → Among ks k → (r : Replica) × (slice_get w.sites k ≡ Some (Site.Up r)) × IsTrue (active r.log)
 
-pub have_ticked : (t : ℕ) (C : ℕ → Type 0) (v : World) (ks ts : List ℕ) (w : World) → Distinct ks → GoesCalmly t C v ts w → AllActive ks w → HaveTicked t C v ks ts w
+pub have_ticked : (t : ℕ) (C : ℕ → Type 0) (v : World) (ks ts : List ℕ) (w : World) → t < 2 ^ 64 → Distinct ks → GoesCalmly C v ts w → AllActive ks w → HaveTicked t C v ks w
 unfolding ticks
-have_ticked t C v [] ts w d g a = record { all = ts; goes = g; counts = λ j. omega arith }
-have_ticked t C v (k ∷ ks) ts w d g a =
+have_ticked t C v [] ts w lt d g a = record { all = ts; goes = g }
+have_ticked t C v (k ∷ ks) ts w lt d g a =
     let one = a k (inl refl) in
     let is = tick_up t k w one.0 one.1 in
-    let h = have_ticked t C v ks (k ∷ ts) (tick t k w) d.1 (subst (GoesCalmly t C v (k ∷ ts)) (sym is) (by_tick k one.0 g one.1 one.2))
+    let h = have_ticked t C v ks (k ∷ ts) (tick t k w) lt d.1 (subst (GoesCalmly C v (k ∷ ts)) (sym is) (by_tick k t one.0 lt g one.1 one.2))
     (λ j m. let b = a j (inr m) in (b.0, tick_other t k w j (λ e. d.0 (subst (Among ks) e m)) ∙ b.1, b.2)) in
-    record { all = h.all; goes = h.goes; counts = λ j. let c = h.counts j in let x = count_one j k ts in let y = count_one j k ks in omega (arith, c, x, y) }
-  where
-    count_one : (j k : ℕ) (xs : List ℕ) → count_by (λ i. i == j) (k ∷ xs) ≡ count_by (λ i. i == j) (k ∷ []) + count_by (λ i. i == j) xs
-    count_one j k xs = elim (cases_eq k j) [
-      | inl e ↦ (let p = subst (λ z. count_by (λ i. i == j) (z ∷ xs) ≡ count_by (λ i. i == j) xs + 1) (sym e) (count_same j xs) in
-          let q = subst (λ z. count_by (λ i. i == j) (z ∷ []) ≡ count_by (λ i. i == j) [] + 1) (sym e) (count_same j []) in omega (arith, p, q))
-      | inr ne ↦ (let p = count_other k j xs ne in let q = count_other k j [] ne in omega (arith, p, q))
-    ]
-
--- of distinct replicas each ticks once at most
-pub count_once : (ks : List ℕ) (j : ℕ) → Distinct ks → count_by (λ i. i == j) ks ≤ 1
-count_once [] j d = omega arith
-count_once (k ∷ ks) j d = elim (cases_eq k j) [
-  | inl e ↦ (let p = subst (λ z. count_by (λ i. i == j) (z ∷ ks) ≡ count_by (λ i. i == j) ks + 1) (sym e) (count_same j ks) in
-      let z = none_of ks j (λ m. d.0 (subst (Among ks) (sym e) m)) in omega (arith, p, z))
-  | inr ne ↦ (let p = count_other k j ks ne in let h = count_once ks j d.1 in omega (arith, p, h))
-]
-  where
-    none_of : (ks : List ℕ) (j : ℕ) → (Among ks j → ⊥) → count_by (λ i. i == j) ks ≡ 0
-    none_of [] j n = refl
-    none_of (k ∷ ks) j n = count_other k j ks (λ e. n (inl e)) ∙ none_of ks j (λ m. n (inr m))
+    record { all = h.all; goes = h.goes }
 
 -- ---- which numbers a settle delivers
 

@@ -1,5 +1,5 @@
 -- Worlds within a calm round.
-use Rattle.std.specs.Prelude.{◌≡◌, ◌⊎◌, ℕ, ◌+◌, ◌≤◌, IsTrue, List, [], ◌∷◌, Some, slice_get}
+use Rattle.std.specs.Prelude.{◌≡◌, ◌⊎◌, ℕ, ◌+◌, ◌<◌, ◌≤◌, ◌^◌, IsTrue, List, [], ◌∷◌, Some, slice_get}
 use Rattle.crsm_spec.specs.Types.{InEpoch, Datagram}
 use Rattle.crsm_spec.specs.Log.{active}
 use Rattle.crsm_spec.specs.Replica.{Replica}
@@ -9,16 +9,16 @@ use Rattle.crsm_spec.specs.Moments.{use_up}
 use Rattle.crsm_law_steps.specs.Happenings.{WasSent}
 use Rattle.crsm_law_active.specs.Staying.{IsCalmInput}
 
--- World v has advanced, at one reading, by ticks of active replicas, the last one first, and by deliveries. Each
+-- World v has advanced, at any readings, by ticks of active replicas, the last one first, and by deliveries. Each
 -- replica with property C received calm input only.
-pub data GoesCalmly (t : ℕ) (C : ℕ → Type 0) (v : World) : List ℕ → World → Type 0 where
-  stay : GoesCalmly t C v [] v
-  marks : {ticks : List ℕ} {w : World} (i : ℕ) → GoesCalmly t C v ticks w → GoesCalmly t C v ticks (use_up i w)
-  by_tick : {ticks : List ℕ} {w : World} (k : ℕ) (r : Replica) → GoesCalmly t C v ticks w → slice_get w.sites k ≡ Some (Site.Up r) →
-      IsTrue (active r.log) → GoesCalmly t C v (k ∷ ticks) (whole_step w k (step r Input.Ticked t)).after
-  by_packet : {ticks : List ℕ} {w : World} (k : ℕ) (r : Replica) (from : ℕ) (d : Datagram) → GoesCalmly t C v ticks w →
+pub data GoesCalmly (C : ℕ → Type 0) (v : World) : List ℕ → World → Type 0 where
+  stay : GoesCalmly C v [] v
+  marks : {ticks : List ℕ} {w : World} (i : ℕ) → GoesCalmly C v ticks w → GoesCalmly C v ticks (use_up i w)
+  by_tick : {ticks : List ℕ} {w : World} (k t : ℕ) (r : Replica) → t < 2 ^ 64 → GoesCalmly C v ticks w → slice_get w.sites k ≡ Some (Site.Up r) →
+      IsTrue (active r.log) → GoesCalmly C v (k ∷ ticks) (whole_step w k (step r Input.Ticked t)).after
+  by_packet : {ticks : List ℕ} {w : World} (k t : ℕ) (r : Replica) (from : ℕ) (d : Datagram) → t < 2 ^ 64 → GoesCalmly C v ticks w →
       slice_get w.sites k ≡ Some (Site.Up r) → WasSent w from k d → (C k → IsCalmInput r (Input.Came from d)) →
-      GoesCalmly t C v ticks (whole_step w k (step r (Input.Came from d) t)).after
+      GoesCalmly C v ticks (whole_step w k (step r (Input.Came from d) t)).after
 
 -- datagram i is frame a from k to j
 abbrev pub IsFrameAt : List Packet → ℕ → ℕ → ℕ → ℕ → ℕ → Type 0

@@ -11,7 +11,8 @@ use Rattle.crsm_spec.specs.Replica.{Replica}
 use Rattle.crsm_fact_log.proofs.Lists.{kept_from, kept_in}
 use Rattle.crsm_replica_io.specs.declared.input.WantedInput.TheVariants as what
 use Rattle.crsm_replica_detector.specs.Watching.{Times, Watch, unwatched}
-use Rattle.crsm_replica_detector.specs.Wished.{AreWished, Fulfils, replica_after, watch_after, wish_of}
+use Rattle.crsm_spec_process.specs.Turns.{replica_after}
+use Rattle.crsm_replica_detector.specs.Wished.{AreWished, Fulfils, watch_after, wish_of}
 use Rattle.crsm_replica_detector.specs.Wishing.{is_wanted, suspects, tick_is_due, wanted, wish, wish_at}
 use Rattle.crsm_law_wishes.specs.Laws.{AreTurnsOf, HeardAreNotSuspected, OthersAreSuspected, TicksAreTimely, patience}
 use Rattle.crsm_law_wishes.specs.Readings.{IsNow}

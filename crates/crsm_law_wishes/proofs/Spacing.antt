@@ -9,7 +9,8 @@ use Rattle.crsm_spec.specs.Node.{Turn, turn}
 use Rattle.crsm_spec.specs.Replica.{Replica}
 use Rattle.crsm_replica_io.specs.declared.input.WantedInput.TheVariants as what
 use Rattle.crsm_replica_detector.specs.Watching.{Times, Watch, unwatched, watched}
-use Rattle.crsm_replica_detector.specs.Wished.{AreWished, Fulfils, replica_after, watch_after, wish_of}
+use Rattle.crsm_spec_process.specs.Turns.{replica_after}
+use Rattle.crsm_replica_detector.specs.Wished.{AreWished, Fulfils, watch_after, wish_of}
 use Rattle.crsm_replica_detector.specs.Wishing.{may_suspect, suspects, tick_is_due, wanted, wish, wish_at}
 use Rattle.crsm_law_wishes.specs.Laws.{SuspicionsAreSpaced, patience}
 use Rattle.crsm_law_wishes.proofs.Laws.{WishedInTurn, fulfilled_at, here, split_at}

@@ -5,7 +5,8 @@ use Rattle.crsm_spec.specs.Log.{spec}
 use Rattle.crsm_spec.specs.Node.{Turn}
 use Rattle.crsm_spec.specs.Replica.{Replica}
 use Rattle.crsm_replica_detector.specs.Watching.{unwatched}
-use Rattle.crsm_replica_detector.specs.Wished.{AreWished, replica_after}
+use Rattle.crsm_spec_process.specs.Turns.{replica_after}
+use Rattle.crsm_replica_detector.specs.Wished.{AreWished}
 use Rattle.crsm_law_wishes.specs.Readings.{IsLastTick, IsLastWordOf, IsNow}
 
 -- how long a node waits for a word of another: 5 seconds

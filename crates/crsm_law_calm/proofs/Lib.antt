@@ -1,0 +1,10 @@
+pub mod Events
+pub mod Halves
+pub mod Serving
+pub mod Carrying
+pub mod Ticking
+pub mod Taking
+pub mod Round
+pub mod Beginning
+pub mod Bound
+pub mod Happening

@@ -1,0 +1,4 @@
+pub mod Calm
+pub mod Rounds
+pub mod Laws
+pub mod Cases
