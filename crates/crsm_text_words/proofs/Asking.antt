@@ -7,12 +7,13 @@ use Rattle.crsm_base.specs.declared.Command.{Command}
 use Rattle.crsm_base.specs.Members.{IsMembers}
 use Rattle.crsm_text.specs.Words.{commas}
 use Rattle.crsm_text_words.specs.Addresses.{address_text}
-use Rattle.crsm_text_words.specs.Orders.{Asks, AsksCommand, IsAddress, IsClient, IsClusterSize, NamesCluster}
+use Rattle.crsm_text_words.specs.Orders.{Asks, AsksCommand, IsAddress, IsClient, IsClusterSize, NamesCluster, part_words}
 use Rattle.crsm_text_words.specs.Table.{fits}
+use Rattle.crsm_text_words.specs.declared.order.DumpPart.{DumpPart}
 use Rattle.crsm_text_words.specs.declared.order.LockTask.{LockTask}
 use Rattle.crsm_text_words.specs.declared.order.NodeTask.{NodeTask}
 use Rattle.crsm_text_words.specs.declared.order.Task.{Task}
-use Rattle.crsm_text_words.specs.declared.order.Task.TheVariants.{Show, Replay, ReplayNode, Node, Client, Operate, Soak, Audit, Lock, Delay, DelayTimes, ReplayMp}
+use Rattle.crsm_text_words.specs.declared.order.Task.TheVariants.{Show, Replay, ReplayNode, Node, Client, Operate, Soak, Audit, Lock, Delay, DelayTimes, ReplayMp, Dump}
 
 few_fit : (words : List Text) → 1 ≤ length words → length words ≤ 4 → (a b c d : Text) → fits (codes "client" ∷ a ∷ b ∷ c ∷ d ∷ words) ≡ true
 few_fit (w ∷ []) some few a b c d = refl
@@ -21,6 +22,11 @@ few_fit (w ∷ x ∷ y ∷ []) some few a b c d = refl
 few_fit (w ∷ x ∷ y ∷ z ∷ []) some few a b c d = refl
 few_fit [] some few a b c d = absurd (omega (arith, some))
 few_fit (w ∷ x ∷ y ∷ z ∷ u ∷ us) some few a b c d = absurd (omega (arith, few))
+
+part_fit : (me n : Text) (part : DumpPart) → fits (codes "dump" ∷ me ∷ n ∷ part_words part) ≡ true
+part_fit me n DumpPart.All = refl
+part_fit me n DumpPart.State = refl
+part_fit me n DumpPart.Keys = refl
 
 -- they are as many as their command's row allows
 pub asks_fit : (task : Task) (words : List Text) → Asks task words → fits words ≡ true
@@ -38,6 +44,7 @@ asks_fit (Lock t) words asks = ap fits asks.1
 asks_fit Delay words asks = ap fits asks
 asks_fit DelayTimes words asks = ap fits asks
 asks_fit ReplayMp words asks = ap fits asks
+asks_fit (Dump me n part) words asks = ap fits asks.2 ∙ part_fit (decimal me) (decimal n) part
 
 -- nothing asks for nothing
 pub nothing_asked : (task : Task) → Asks task [] → ⊥
@@ -62,6 +69,7 @@ name_of_cluster (Lock t) words asks names = absurd names
 name_of_cluster Delay words asks names = absurd names
 name_of_cluster DelayTimes words asks names = absurd names
 name_of_cluster ReplayMp words asks names = absurd names
+name_of_cluster (Dump me n part) words asks names = absurd names
 
 no_name : (words : List Text) (all : List Text) → words ≡ all → cluster_name all ≡ false → cluster_name words ≡ true → ⊥
 no_name words all is other some = let bad : false ≡ true = sym other ∙ sym (ap cluster_name is) ∙ some in cc bad
@@ -79,6 +87,7 @@ cluster_of_name (Lock t) words asks some = no_name words _ asks.1 refl some
 cluster_of_name Delay words asks some = no_name words _ asks refl some
 cluster_of_name DelayTimes words asks some = no_name words _ asks refl some
 cluster_of_name ReplayMp words asks some = no_name words _ asks refl some
+cluster_of_name (Dump me n part) words asks some = no_name words _ asks.2 refl some
 
 -- whether words ask for a task in a cluster is a matter of the words
 pub one_kind : (task other : Task) (words : List Text) → Asks task words → Asks other words → NamesCluster other → NamesCluster task
@@ -139,6 +148,7 @@ client_asked (Lock t) values asks = absurd (other_name (codes "client") (codes "
 client_asked Delay values asks = absurd (other_name (codes "client") (codes "delay") values _ refl refl asks)
 client_asked DelayTimes values asks = absurd (other_name (codes "client") (codes "delay") values _ refl refl asks)
 client_asked ReplayMp values asks = absurd (other_name (codes "client") (codes "replay-mp") values _ refl refl asks)
+client_asked (Dump me n part) values asks = absurd (other_name (codes "client") (codes "dump") values _ refl refl asks.2)
 
 -- ---- other commands
 
@@ -163,6 +173,31 @@ replay_node_asked (Lock t) values asks = absurd (other_name (codes "replay-node"
 replay_node_asked Delay values asks = absurd (other_name (codes "replay-node") (codes "delay") values _ refl refl asks)
 replay_node_asked DelayTimes values asks = absurd (other_name (codes "replay-node") (codes "delay") values _ refl refl asks)
 replay_node_asked ReplayMp values asks = absurd (other_name (codes "replay-node") (codes "replay-mp") values _ refl refl asks)
+replay_node_asked (Dump me n part) values asks = absurd (other_name (codes "replay-node") (codes "dump") values _ refl refl asks.2)
+
+pub record DumpAsked (task : Task) (values : List Text) : Type 0 where
+  pub me : ℕ
+  pub n : ℕ
+  pub part : DumpPart
+  pub task_is : task ≡ Dump me n part
+  pub below : me < 15
+  pub size : IsClusterSize n
+  pub values_are : values ≡ decimal me ∷ decimal n ∷ part_words part
+
+pub dump_asked : (task : Task) (values : List Text) → Asks task (codes "dump" ∷ values) → DumpAsked task values
+dump_asked (Show text) values asks = absurd asks
+dump_asked Replay values asks = absurd (other_name (codes "dump") (codes "replay") values _ refl refl asks)
+dump_asked (ReplayNode me n) values asks = absurd (other_name (codes "dump") (codes "replay-node") values _ refl refl asks.2)
+dump_asked (Node t) values asks = absurd (other_name (codes "dump") (codes "node") values _ refl refl asks.1)
+dump_asked (Client to turns command) values asks = absurd (other_name (codes "dump") (codes "client") values _ refl refl asks.words_are)
+dump_asked (Operate to members) values asks = absurd (other_name (codes "dump") (codes "operate") values _ refl refl asks.2)
+dump_asked (Soak number n steps) values asks = absurd (other_name (codes "dump") (codes "soak") values _ refl refl asks.3)
+dump_asked (Audit n) values asks = absurd (other_name (codes "dump") (codes "audit") values _ refl refl asks.1)
+dump_asked (Lock t) values asks = absurd (other_name (codes "dump") (codes "lock") values _ refl refl asks.1)
+dump_asked Delay values asks = absurd (other_name (codes "dump") (codes "delay") values _ refl refl asks)
+dump_asked DelayTimes values asks = absurd (other_name (codes "dump") (codes "delay") values _ refl refl asks)
+dump_asked ReplayMp values asks = absurd (other_name (codes "dump") (codes "replay-mp") values _ refl refl asks)
+dump_asked (Dump me n part) values asks = record { me = me; n = n; part = part; task_is = refl; below = asks.0; size = asks.1; values_are = tail_of (codes "dump") values _ asks.2 }
 
 pub record SoakAsked (task : Task) (values : List Text) : Type 0 where
   pub number : ℕ
@@ -187,6 +222,7 @@ soak_asked (Lock t) values asks = absurd (other_name (codes "soak") (codes "lock
 soak_asked Delay values asks = absurd (other_name (codes "soak") (codes "delay") values _ refl refl asks)
 soak_asked DelayTimes values asks = absurd (other_name (codes "soak") (codes "delay") values _ refl refl asks)
 soak_asked ReplayMp values asks = absurd (other_name (codes "soak") (codes "replay-mp") values _ refl refl asks)
+soak_asked (Dump me n part) values asks = absurd (other_name (codes "soak") (codes "dump") values _ refl refl asks.2)
 
 pub record OperateAsked (task : Task) (values : List Text) : Type 0 where
   pub to : ℕ
@@ -209,3 +245,4 @@ operate_asked (Lock t) values asks = absurd (other_name (codes "operate") (codes
 operate_asked Delay values asks = absurd (other_name (codes "operate") (codes "delay") values _ refl refl asks)
 operate_asked DelayTimes values asks = absurd (other_name (codes "operate") (codes "delay") values _ refl refl asks)
 operate_asked ReplayMp values asks = absurd (other_name (codes "operate") (codes "replay-mp") values _ refl refl asks)
+operate_asked (Dump me n part) values asks = absurd (other_name (codes "operate") (codes "dump") values _ refl refl asks.2)

@@ -15,7 +15,7 @@ use Rattle.crsm_text_words.specs.Split.{is_usage, taken}
 use Rattle.crsm_text_words.specs.Table.{product_app}
 use Rattle.crsm_text_words.specs.declared.order.Order.{Order}
 use Rattle.crsm_text_words.specs.declared.order.Task.{Task}
-use Rattle.crsm_text_words.specs.declared.order.Task.TheVariants.{Show, Replay, ReplayNode, Node, Client, Operate, Soak, Audit, Lock, Delay, DelayTimes, ReplayMp}
+use Rattle.crsm_text_words.specs.declared.order.Task.TheVariants.{Show, Replay, ReplayNode, Node, Client, Operate, Soak, Audit, Lock, Delay, DelayTimes, ReplayMp, Dump}
 use Rattle.crsm_text_words.specs.declared.read.WordsError.{WordsError}
 use Rattle.crsm_text_words.specs.declared.read.WordsError.TheVariants.{Usage}
 use Rattle.crsm_text_words.proofs.Asking.{one_kind}
@@ -75,6 +75,7 @@ shown_here (Lock t) is = absurd is
 shown_here Delay is = absurd is
 shown_here DelayTimes is = absurd is
 shown_here ReplayMp is = absurd is
+shown_here (Dump me n part) is = absurd is
 
 pub any_in : (result : Result Order WordsError) (cluster : ℕ) (number : Text) (task : Task) (rest : List Text) → 0 < cluster → cluster < 2 ^ 64 → number ≡ decimal cluster
     → TaskFor rest task → Made cluster task result → Unmade task result → OrderBy (codes "cluster" ∷ number ∷ rest) result
@@ -113,6 +114,7 @@ own_peer (Lock t) words asks = tt
 own_peer Delay words asks = tt
 own_peer DelayTimes words asks = tt
 own_peer ReplayMp words asks = tt
+own_peer (Dump me n part) words asks = tt
 
 shown_peer : (task : Task) → IsShown task → HasOwnPeer task
 shown_peer (Show t) is = tt
@@ -127,6 +129,7 @@ shown_peer (Lock t) is = tt
 shown_peer Delay is = tt
 shown_peer DelayTimes is = tt
 shown_peer ReplayMp is = tt
+shown_peer (Dump me n part) is = tt
 
 made_peer : (words : List Text) (o : Order) → OrderMade words o → HasOwnPeer o.task
 made_peer words o (text no_front is_text why) = shown_peer o.task is_text

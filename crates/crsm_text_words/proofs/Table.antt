@@ -78,7 +78,13 @@ all_built = (
                                   refl,
                                   (
                                     several_values false refl refl refl (omega arith),
-                                    (refl, (no_values refl refl refl, tt)),
+                                    (
+                                      refl,
+                                      (
+                                        several_values true refl refl refl (omega arith),
+                                        (refl, (no_values refl refl refl, tt)),
+                                      ),
+                                    ),
                                   ),
                                 ),
                               ),

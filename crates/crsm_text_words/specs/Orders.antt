@@ -11,13 +11,14 @@ use Rattle.crsm_base.specs.Spelling.{FitsCommand, FitsKey}
 use Rattle.crsm_text.specs.Words.{commas, spaced}
 use Rattle.crsm_text.specs.Values.{HasBytes, op_text}
 use Rattle.crsm_text_words.specs.Addresses.{AreAddresses, address_text, addresses_text}
+use Rattle.crsm_text_words.specs.declared.order.DumpPart.{DumpPart}
 use Rattle.crsm_text_words.specs.declared.order.LockAction.{LockAction}
 use Rattle.crsm_text_words.specs.declared.order.LockAction.TheVariants.{Take, Give, Break}
 use Rattle.crsm_text_words.specs.declared.order.LockTask.{LockTask}
 use Rattle.crsm_text_words.specs.declared.order.NodeTask.{NodeTask}
 use Rattle.crsm_text_words.specs.declared.order.Order.{Order}
 use Rattle.crsm_text_words.specs.declared.order.Task.{Task}
-use Rattle.crsm_text_words.specs.declared.order.Task.TheVariants.{Show, Replay, ReplayNode, Node, Client, Operate, Soak, Audit, Lock, Delay, DelayTimes, ReplayMp}
+use Rattle.crsm_text_words.specs.declared.order.Task.TheVariants.{Show, Replay, ReplayNode, Node, Client, Operate, Soak, Audit, Lock, Delay, DelayTimes, ReplayMp, Dump}
 
 -- the words that the references point to
 abbrev pub texts : List (Bor Text) → List Text
@@ -65,6 +66,12 @@ action_text Take = codes "take"
 action_text Give = codes "give"
 action_text Break = codes "break"
 
+-- the words of a part of a dump: none for all of it
+abbrev pub part_words : DumpPart → List Text
+part_words DumpPart.All = []
+part_words DumpPart.State = codes "state" ∷ []
+part_words DumpPart.Keys = codes "keys" ∷ []
+
 -- one to four words that, joined by spaces, are the text of the operation
 pub record AreOperation (words : List Text) (op : Op) : Type 0 where
   pub some : 1 ≤ length words
@@ -104,6 +111,7 @@ Asks (Lock t) words = IsLock t × (words ≡ codes "lock" ∷ lock_values t)
 Asks Delay words = words ≡ codes "delay" ∷ []
 Asks DelayTimes words = words ≡ codes "delay" ∷ codes "times" ∷ []
 Asks ReplayMp words = words ≡ codes "replay-mp" ∷ []
+Asks (Dump me n part) words = (me < 15) × IsClusterSize n × (words ≡ codes "dump" ∷ decimal me ∷ decimal n ∷ part_words part)
 
 -- no value of the task needs memory
 abbrev pub IsPlainTask : Task → Type 0

@@ -1,7 +1,7 @@
 -- The system's devices that a task uses.
 use Rattle.std.specs.Prelude.{ℕ, ◌<◌, length, get_or}
 use Rattle.crsm_text_words.specs.declared.order.Task.{Task}
-use Rattle.crsm_text_words.specs.declared.order.Task.TheVariants.{Show, Replay, ReplayNode, Node, Client, Operate, Soak, Audit, Lock, Delay, DelayTimes, ReplayMp}
+use Rattle.crsm_text_words.specs.declared.order.Task.TheVariants.{Show, Replay, ReplayNode, Node, Client, Operate, Soak, Audit, Lock, Delay, DelayTimes, ReplayMp, Dump}
 use Rattle.crsm_text_words.specs.declared.order.DevicePlan.{DevicePlan}
 use Rattle.crsm_text_words.specs.declared.order.DevicePlan.TheVariants as plan
 

@@ -25,6 +25,7 @@ table =
     ∷ row (codes "audit") 1 1 1
     ∷ row (codes "lock") 6 6 6
     ∷ row (codes "delay") 1 0 1
+    ∷ row (codes "dump") 3 2 3
     ∷ row (codes "replay-mp") 0 0 0
     ∷ []
 

@@ -27,6 +27,8 @@ static LOCK: [&str; 6] = ["TO", "TURNS", "CLIENT", "NUMBER", "KEY", "ACTION"];
 
 static DELAY: [&str; 1] = ["times"];
 
+static DUMP: [&str; 3] = ["ME", "N", "PART"];
+
 /// Declares a command without values, with its name and texts.
 fn plain<'a>(alloc: Global, name: &'a str, help: Help) -> Command<'a>
     ensures shape { app_of result ≡ new_app name.entry.now }
@@ -94,6 +96,7 @@ fn product<'a>(alloc: Global) -> Result<Command<'a>, AllocError>
         .subcommand(taking(alloc, "audit", help::AUDIT, AUDIT.as_slice(), 1, 1)?)?
         .subcommand(taking(alloc, "lock", help::LOCK, LOCK.as_slice(), 6, 6)?)?
         .subcommand(taking(alloc, "delay", help::DELAY, DELAY.as_slice(), 0, 1)?)?
+        .subcommand(taking(alloc, "dump", help::DUMP, DUMP.as_slice(), 2, 3)?)?
         .subcommand(plain(alloc, "replay-mp", help::REPLAY_MP))
 }
 

@@ -12,8 +12,7 @@ pub(crate) struct Help {
 }
 
 /// What the program's own help says of all commands.
-pub(crate) const PRODUCT: &str = "\
-A first node, and a command:
+pub(crate) const PRODUCT: &str = "A first node, and a command:
   crsm node 0 1 1000000000000 127.0.0.1:7000 > /dev/null &
   crsm client 127.0.0.1:7000 5000 7 1 put 61 62
 
@@ -24,7 +23,7 @@ The exit status is 0, or 2 for words that are none, or says with a line on stand
 pub(crate) const NODE: Help = Help {
     about: "Runs a node of the store",
     usage: "crsm [cluster C] node ME N TURNS PEERS",
-    details: "\
+    details: "Words:
   ME      the node's number, 0 to 14
   N       with how many nodes the cluster began, 1 to 15: the same at all of them, and for good
   TURNS   after so many turns the node ends, up to 1000000000000; a turn takes a datagram or waits a millisecond for one
@@ -40,7 +39,7 @@ Example, the first of three nodes:
 pub(crate) const CLIENT: Help = Help {
     about: "Asks a node for one command and writes the answer",
     usage: "crsm [cluster C] client TO TURNS CLIENT NUMBER OP",
-    details: "\
+    details: "Words:
   TO      the node's address, IPv4:PORT; any node takes commands
   TURNS   how long to wait for the answer, in milliseconds at the least, 1 to 1000000
   CLIENT  the client's number, below 2^64; no two clients may have one number
@@ -58,7 +57,7 @@ Example:
 pub(crate) const OPERATE: Help = Help {
     about: "Asks a node to change which nodes take part",
     usage: "crsm [cluster C] operate TO MEMBERS",
-    details: "\
+    details: "Words:
   TO       the node's address, IPv4:PORT
   MEMBERS  the numbers of the nodes that are to take part, rising, with commas between
 
@@ -73,7 +72,7 @@ Example, node 3 in the place of node 2:
 pub(crate) const LOCK: Help = Help {
     about: "Takes, gives back or breaks a lock and writes who has it",
     usage: "crsm lock TO TURNS CLIENT NUMBER KEY ACTION",
-    details: "\
+    details: "Words:
   TO      the node's address, IPv4:PORT
   TURNS   how long to wait for each answer, in milliseconds at the least, 1 to 1000000
   CLIENT  the client's number, which owns the locks that it takes
@@ -88,22 +87,20 @@ Example:
 pub(crate) const REPLAY: Help = Help {
     about: "Runs a schedule of a simulated cluster and writes its transcript",
     usage: "crsm replay < SCHEDULE",
-    details: "\
-Example:
+    details: "Example:
   crsm replay < examples/first.schedule",
 };
 
 pub(crate) const REPLAY_MP: Help = Help {
     about: "Runs a schedule in the store with a leader (Multi-Paxos)",
     usage: "crsm replay-mp < SCHEDULE",
-    details: "\
-The same store and the same form of schedule, for a comparison: no node runs it.",
+    details: "The same store and the same form of schedule, for a comparison: no node runs it.",
 };
 
 pub(crate) const REPLAY_NODE: Help = Help {
     about: "Runs a node's sheet again and writes what the node did",
     usage: "crsm replay-node ME N < SHEET",
-    details: "\
+    details: "Words:
   ME   the node's number, 0 to 14
   N    with how many nodes its cluster began, 1 to 15
 
@@ -111,10 +108,25 @@ Example:
   crsm replay-node 0 3 < sheet-0",
 };
 
+pub(crate) const DUMP: Help = Help {
+    about: "Writes what a node's log file says: its state, the keys and the clients",
+    usage: "crsm dump ME N [state|keys] < LOG",
+    details: "Words:
+  ME     the node's number, 0 to 14
+  N      with how many nodes its cluster began, 1 to 15
+  state  all lines but those of the keys
+  keys   the lines of the keys alone, 'key KEY VALUE' in hexadecimal, in ascending order
+
+The log is read as a start of the node reads it, and nothing is written to it; the node may run meanwhile.
+
+Example:
+  crsm dump 0 3 keys < crsm-0.log",
+};
+
 pub(crate) const AUDIT: Help = Help {
     about: "Compares the sheets of several nodes and writes whether they agree",
     usage: "crsm audit N < SHEETS",
-    details: "\
+    details: "Words:
   N    with how many nodes their cluster began, 1 to 15
 
 The input has the sheets one after another, each behind a line 'node ME', those of one node in the order of its starts.
@@ -126,7 +138,7 @@ Example:
 pub(crate) const SOAK: Help = Help {
     about: "Draws a schedule, runs it and writes a summary",
     usage: "crsm soak NUMBER N STEPS",
-    details: "\
+    details: "Words:
   NUMBER  the seed, below 2^64
   N       how many replicas, 1 to 15
   STEPS   how many events, up to 100000
@@ -138,8 +150,8 @@ Example:
 pub(crate) const DELAY: Help = Help {
     about: "Reckons when a command commits between sites with given delays",
     usage: "crsm delay [times] < PLAN",
-    details: "\
-Writes the schedule of the command's way, which replay runs; with 'times', when each site executes it, in microseconds.
+    details: "Writes the schedule of the command's way, which replay runs; with 'times', when each site executes it, in
+microseconds.
 
 Example:
   crsm delay times < examples/five_regions.plan",

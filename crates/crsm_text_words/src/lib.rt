@@ -11,6 +11,6 @@ mod usage;
 mod values;
 
 pub use address::{Addresses, read_address, read_addresses};
-pub use order::{DevicePlan, LockAction, LockTask, NodeTask, Order, Task};
+pub use order::{DevicePlan, DumpPart, LockAction, LockTask, NodeTask, Order, Task};
 pub use read::{WordsError, read_words};
 pub use usage::usage_text;

@@ -45,6 +45,17 @@ pub struct LockTask {
     pub action: LockAction,
 }
 
+/// The part of a log's dump that is wanted.
+#[derive(Clone, Copy, Debug, PartialEq, Eq)]
+pub enum DumpPart {
+    /// The state of the replica, the keys and the clients.
+    All,
+    /// The state of the replica and the clients.
+    State,
+    /// The keys.
+    Keys,
+}
+
 /// A task of the program, with its values.
 #[derive(Debug, Drop)]
 pub enum Task {
@@ -88,6 +99,12 @@ pub enum Task {
     DelayTimes,
     /// Runs a schedule in the store with a leader.
     ReplayMp,
+    /// Writes what the log of node `me` says, whose cluster began with `n` replicas.
+    Dump {
+        me: u32,
+        n: u32,
+        part: DumpPart,
+    },
 }
 
 /// A task and the number of its cluster, which is 0 if the words name none.

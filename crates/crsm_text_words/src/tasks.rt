@@ -8,14 +8,15 @@ ghost use Rattle.crsm_base.specs.Spelling.{FitsCommand, FitsOp};
 ghost use Rattle.crsm_text.specs.Reads.{ReadsAs};
 ghost use Rattle.crsm_text.specs.Values.{HasBytes};
 ghost use Rattle.crsm_text_words.specs.Addresses.{address_text};
+ghost use Rattle.crsm_text_words.specs.declared.order.DumpPart.{DumpPart as Part};
 ghost use Rattle.crsm_text_words.specs.declared.order.LockAction.{LockAction as Action};
 ghost use Rattle.crsm_text_words.specs.declared.order.LockTask.{LockTask as Locked};
 ghost use Rattle.crsm_text_words.specs.declared.order.NodeTask.{NodeTask as Node};
 ghost use Rattle.crsm_text_words.specs.declared.order.Task.{Task as Asked};
-ghost use Rattle.crsm_text_words.specs.Orders.{AreOperation, Asks, AsksCommand, IsAddress, IsClusterSize, IsLock, IsNode, IsPatience, IsPlainTask, action_text, lock_values, node_values, texts};
+ghost use Rattle.crsm_text_words.specs.Orders.{AreOperation, Asks, AsksCommand, IsAddress, IsClusterSize, IsLock, IsNode, IsPatience, IsPlainTask, action_text, lock_values, node_values, part_words, texts};
 
 use crate::address::read_addresses;
-use crate::order::{LockAction, LockTask, NodeTask, Task};
+use crate::order::{DumpPart, LockAction, LockTask, NodeTask, Task};
 use crate::values::{
     action_of, is_last, is_word, joined, key_of, take_address, take_end, take_number, take_replica,
     take_size, take_word,
@@ -91,6 +92,34 @@ fn replay_node(values: &[&str]) -> Option<Task>
     let (me, n, rest) = take_place(values)?;
     take_end(rest)?;
     Some(Task::ReplayNode { me, n })
+}
+
+/// Parses the word of the wanted part of a dump, which is all of it without a word, or returns `None`.
+fn part_of(values: &[&str]) -> Option<DumpPart>
+    ensures found { IfSome result (λ part. texts values.now ≡ part_words part) }
+    ensures only { (part : Part) → texts values.now ≡ part_words part → result ≡ Some part }
+{
+    if is_last(values) {
+        return Some(DumpPart::All);
+    }
+    let (word, rest) = take_word(values)?;
+    take_end(rest)?;
+    if is_word(word, "state") {
+        return Some(DumpPart::State);
+    }
+    if is_word(word, "keys") {
+        return Some(DumpPart::Keys);
+    }
+    None
+}
+
+fn dump(values: &[&str]) -> Option<Task>
+    ensures found { IfSome result (λ task. Asks task (codes "dump" ∷ texts values.now)) }
+    ensures only { (task : Asked) → Asks task (codes "dump" ∷ texts values.now) → result ≡ Some task }
+{
+    let (me, n, rest) = take_place(values)?;
+    let part = part_of(rest)?;
+    Some(Task::Dump { me, n, part })
 }
 
 /// Parses the step count of a soak; returns it and the remaining values, or `None`.
@@ -366,6 +395,9 @@ fn plain_task(name: &[u8], values: &[&str]) -> Option<Task>
     }
     if is_word(name, "replay-mp") {
         return replay_mp(values);
+    }
+    if is_word(name, "dump") {
+        return dump(values);
     }
     None
 }

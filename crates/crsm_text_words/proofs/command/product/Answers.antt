@@ -23,4 +23,6 @@ returns c =
     let s8 = c.in_ok-subcommand-8.ensures.shape c.in_ok-taking-7.ensures.local ∙ ap₂ with_subcommand s7 (ap (λ (a : App). a.top) t7) in
     let t8 : app_of c.in_ok-taking-8.field-0 ≡ taking_app (row (codes "delay") 1 0 1) = c.in_ok-taking-8.ensures.shape ∙ ap (λ (n : ℕ). taking_app (row (codes "delay") n 0 1)) (ap length c.as_slice-8.ensures) in
     let s9 = c.in_ok-subcommand-9.ensures.shape c.in_ok-taking-8.ensures.local ∙ ap₂ with_subcommand s8 (ap (λ (a : App). a.top) t8) in
-    IfOk-weaker c.subcommand-10.result _ _ (λ r h. h.shape c.plain-2.ensures.local ∙ ap₂ with_subcommand s9 (ap (λ (a : App). a.top) c.plain-2.ensures.shape)) c.subcommand-10.ensures
+    let t9 : app_of c.in_ok-taking-9.field-0 ≡ taking_app (row (codes "dump") 3 2 3) = c.in_ok-taking-9.ensures.shape ∙ ap (λ (n : ℕ). taking_app (row (codes "dump") n 2 3)) (ap length c.as_slice-9.ensures) in
+    let s10 = c.in_ok-subcommand-10.ensures.shape c.in_ok-taking-9.ensures.local ∙ ap₂ with_subcommand s9 (ap (λ (a : App). a.top) t9) in
+    IfOk-weaker c.subcommand-11.result _ _ (λ r h. h.shape c.plain-2.ensures.local ∙ ap₂ with_subcommand s10 (ap (λ (a : App). a.top) c.plain-2.ensures.shape)) c.subcommand-11.ensures
