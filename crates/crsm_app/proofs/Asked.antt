@@ -5,14 +5,14 @@ use Rattle.crsm_text_words.specs.Answers.{IsShown, OrderMade, Reads, order, text
 use Rattle.crsm_text_words.specs.Orders.{Asks}
 use Rattle.crsm_text_words.specs.declared.order.Order.{Order}
 use Rattle.crsm_text_words.specs.declared.order.Task.{Task}
-use Rattle.crsm_text_words.specs.declared.order.Task.TheVariants.{Show, Replay, ReplayNode, Node, Client, Operate, Soak, Audit, Lock, Delay, DelayTimes, ReplayMp}
+use Rattle.crsm_text_words.specs.declared.order.Task.TheVariants.{Show, Replay, ReplayNode, Node, Client, Operate, Soak, Audit, Lock, Delay, DelayTimes, ReplayMp, Dump}
 use Rattle.crsm_text_words.specs.declared.read.WordsError.{WordsError}
 use Rattle.crsm_client.specs.declared.command.ClientEnd.{ClientEnd}
 use Rattle.crsm_client.specs.declared.error.OperateError.{OperateError}
 use Rattle.crsm_cmd_lock.specs.declared.command.LockEnd.{LockEnd}
 use Rattle.crsm_node.specs.declared.errors.NodeEnd.{NodeEnd}
 use Rattle.crsm_app.specs.Devices.{Devices}
-use Rattle.crsm_app.specs.Did.{Did, DidAudit, DidPlan, DidReplay, DidReplayMp, DidSheet}
+use Rattle.crsm_app.specs.Did.{Did, DidAudit, DidDump, DidPlan, DidReplay, DidReplayMp, DidSheet}
 use Rattle.crsm_app.specs.Statuses.{status_of_client, status_of_lock, status_of_node, status_of_operate}
 use Rattle.crsm_app.specs.Tasks.{IsWithinLimits}
 use Rattle.crsm_app.specs.declared.status.Status.{Status}
@@ -42,6 +42,7 @@ shown_within (Lock t) shown = absurd shown
 shown_within Delay shown = absurd shown
 shown_within DelayTimes shown = absurd shown
 shown_within ReplayMp shown = absurd shown
+shown_within (Dump me n part) shown = absurd shown
 
 asked_within : (task : Task) (words : List Text) → Asks task words → IsWithinLimits task
 asked_within (Show t) words asks = absurd asks
@@ -56,6 +57,7 @@ asked_within (Lock t) words asks = asks.0
 asked_within Delay words asks = tt
 asked_within DelayTimes words asks = tt
 asked_within ReplayMp words asks = tt
+asked_within (Dump me n part) words asks = (asks.0, asks.1)
 
 pub within_limits : (words : List Text) (made : Order) → OrderMade words made → IsWithinLimits made.task
 within_limits words made (text none shown asks) = shown_within made.task shown
@@ -96,7 +98,7 @@ usage_not_no_memory : Status.Usage ≡ Status.NoMemory → ⊥
 usage_not_no_memory is = cc is
 
 not_refused : (cluster : ℕ) (task : Task) (old new : Devices) → Did cluster task Status.Usage old new → ⊥
-unfolding DidAudit DidReplay DidReplayMp DidSheet DidPlan
+unfolding DidAudit DidDump DidReplay DidReplayMp DidSheet DidPlan
 not_refused cluster (Show t) old new did = did.1
 not_refused cluster Replay old new did = did
 not_refused cluster (ReplayNode me n) old new did = did
@@ -112,6 +114,7 @@ not_refused cluster (Lock t) old new did = lock_not_usage did.1.ended did.1.stat
 not_refused cluster Delay old new did = did
 not_refused cluster DelayTimes old new did = did
 not_refused cluster ReplayMp old new did = did
+not_refused cluster (Dump me n part) old new did = did
 
 -- what was done is not refused
 pub not_idle : (made : Order) (result : Status) (old new : Devices) → Did made.cluster made.task result old new → result ≡ Status.Usage → ⊥

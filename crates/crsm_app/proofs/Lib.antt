@@ -1,9 +1,11 @@
 pub mod Schedules
 pub mod MpSchedules
 pub mod Sheets
+pub mod Dumps
 pub mod Audits
 pub mod PlanEnds
 pub mod Asking
 pub mod LockEnds
 pub mod Asked
 pub mod Scarce
+pub mod OtherEnds

@@ -5,7 +5,7 @@ use Rattle.crsm_delay.specs.Reading.{plans_of}
 use Rattle.crsm_delay.specs.declared.handling.Wanted.{Wanted}
 use Rattle.crsm_port_lines.specs.Exact.{Exact}
 use Rattle.crsm_text_words.specs.declared.order.Task.{Task}
-use Rattle.crsm_text_words.specs.declared.order.Task.TheVariants.{Show, Replay, ReplayNode, Node, Client, Operate, Soak, Audit, Lock, Delay, DelayTimes, ReplayMp}
+use Rattle.crsm_text_words.specs.declared.order.Task.TheVariants.{Show, Replay, ReplayNode, Node, Client, Operate, Soak, Audit, Lock, Delay, DelayTimes, ReplayMp, Dump}
 use Rattle.crsm_app.specs.Devices.{Devices}
 use Rattle.crsm_app.specs.Exact.{Exactly, PlansExactly}
 use Rattle.crsm_app.specs.declared.status.Status.{Status}
@@ -56,4 +56,9 @@ module _ (decided : (wanted : Wanted) → Exact (plans_of wanted)) (audits : (n 
     complete = λ s good is short. inr refl;
     refused = λ read text more cause good is bad short. inr refl;
     too_long = λ read rest more good lacks short long some is. inr refl;
+  }
+  without_memory cluster (Dump me n part) old new = λ no_read no_write. record {
+    complete = λ file text is short dump. inr refl;
+    refused = λ file entry why is short bad. inr refl;
+    too_long = λ file is long. inr refl;
   }

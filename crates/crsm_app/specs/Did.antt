@@ -12,6 +12,7 @@ use Rattle.crsm_delay.specs.declared.handling.Wanted.{Wanted}
 use Rattle.crsm_port_lines.specs.Run as lines
 use Rattle.crsm_port_lines.specs.declared.LineRefusal.{LineRefusal}
 use Rattle.crsm_io.specs.Streams.{Puts, PutsPrefix}
+use Rattle.crsm_cmd_dump.specs.Run as dumped
 use Rattle.crsm_cmd_lock.specs.Commands.{LockRan}
 use Rattle.crsm_cmd_lock.specs.declared.command.LockEnd.{LockEnd}
 use Rattle.crsm_node.specs.Order.{peers_in}
@@ -27,14 +28,16 @@ use Rattle.crsm_cmd_replay_node.specs.Run as sheet
 use Rattle.crsm_cmd_replay_node.specs.declared.cause.SheetCause.{SheetCause}
 use Rattle.crsm_cmd_soak.specs.Soak.{drawn}
 use Rattle.crsm_cmd_soak.specs.Text.{soak_text}
+use Rattle.crsm_text_words.specs.declared.order.DumpPart.{DumpPart}
 use Rattle.crsm_text_words.specs.declared.order.LockTask.{LockTask}
 use Rattle.crsm_text_words.specs.declared.order.NodeTask.{NodeTask}
 use Rattle.crsm_text_words.specs.declared.order.Task.{Task}
-use Rattle.crsm_text_words.specs.declared.order.Task.TheVariants.{Show, Replay, ReplayNode, Client, Operate, Soak, Node, Audit, Lock, Delay, DelayTimes, ReplayMp}
+use Rattle.crsm_text_words.specs.declared.order.Task.TheVariants.{Show, Replay, ReplayNode, Client, Operate, Soak, Node, Audit, Lock, Delay, DelayTimes, ReplayMp, Dump}
 use Rattle.crsm_world.specs.Laws.{IsLawful}
 use Rattle.crsm_world.specs.Schedule.{acts_of}
 use Rattle.crsm_app.specs.Devices.{Devices, SameDisk, node_devices}
 use Rattle.crsm_app.specs.Locks.{lock_order}
+use Rattle.crsm_app.specs.Parts.{part_of}
 use Rattle.crsm_app.specs.Statuses.{status_of_client, status_of_lock, status_of_node, status_of_operate}
 use Rattle.crsm_app.specs.declared.status.Status.{Status}
 
@@ -100,6 +103,16 @@ DidPlan wanted Status.WriteFault before after had has = lines.RanPartly (plans_o
 DidPlan wanted Status.NoMemory before after had has = lines.RanPartly (plans_of wanted) before after had has
 DidPlan wanted Status.InputTooLong before after had has = lines.RanTooLong (plans_of wanted) before after had has
 DidPlan wanted _ before after had has = ⊥
+
+-- the log file of replica me was read, in a cluster that began with n, and the wanted part of its dump was written
+unfoldable pub DidDump : (me n : ℕ) → DumpPart → Status → (before after had has : Option (List ℕ)) → Type 0
+DidDump me n part Status.Ok before after had has = dumped.RanToEnd me n (part_of part) before after had has
+DidDump me n part (Status.BadLog entry why) before after had has = dumped.RanToBad me n before after had has entry why
+DidDump me n part Status.ReadFault before after had has = dumped.RanSoFar before after had has
+DidDump me n part Status.WriteFault before after had has = dumped.RanPartly me n (part_of part) before after had has
+DidDump me n part Status.NoMemory before after had has = dumped.RanSoFar before after had has
+DidDump me n part Status.LogTooLong before after had has = dumped.RanTooLong before after had has
+DidDump me n part _ before after had has = ⊥
 
 -- a command was requested from a replica, over a port whose datagrams begin with the mark of a cluster
 pub record DidClient (cluster : ℕ) (order : ClientOrder) (result : Status) (old new : Meaning) (had has : Option (List ℕ)) : Type 0 where
@@ -169,3 +182,4 @@ Did cluster (Lock t) result old new = (new.left ≡ old.left) × DidLock t resul
 Did cluster Delay result old new = DidPlan Wanted.Schedule result old.left new.left old.written new.written
 Did cluster DelayTimes result old new = DidPlan Wanted.Times result old.left new.left old.written new.written
 Did cluster ReplayMp result old new = DidReplayMp result old.left new.left old.written new.written
+Did cluster (Dump me n part) result old new = DidDump me n part result old.left new.left old.written new.written

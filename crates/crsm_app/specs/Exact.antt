@@ -6,7 +6,9 @@ use Rattle.crsm_client.specs.Asking.{WhereNotReplied, WhereReplied}
 use Rattle.crsm_delay.specs.Reading.{plans_of}
 use Rattle.crsm_delay.specs.declared.handling.Wanted.{Wanted}
 use Rattle.crsm_port_faults.specs.Counts.{Rose}
+use Rattle.crsm_io.specs.Streams.{Puts}
 use Rattle.crsm_port_lines.specs.Exact as lines
+use Rattle.crsm_cmd_dump.specs.Run as dumped
 use Rattle.crsm_cmd_lock.specs.Answers.{WhereAnswered, WhereNotAnswered}
 use Rattle.crsm_port.specs.Meaning.{Meaning}
 use Rattle.crsm_cmd_replay.specs.Run as schedule
@@ -15,11 +17,13 @@ use Rattle.crsm_sim_schedule.specs.declared.Cause.{Cause}
 use Rattle.crsm_mpreplay.specs.Run as led
 use Rattle.crsm_cmd_replay_node.specs.Run as sheet
 use Rattle.crsm_cmd_replay_node.specs.declared.cause.SheetCause.{SheetCause}
+use Rattle.crsm_text_words.specs.declared.order.DumpPart.{DumpPart}
 use Rattle.crsm_text_words.specs.declared.order.LockTask.{LockTask}
 use Rattle.crsm_text_words.specs.declared.order.Task.{Task}
-use Rattle.crsm_text_words.specs.declared.order.Task.TheVariants.{Show, Replay, ReplayNode, Client, Operate, Soak, Node, Audit, Lock, Delay, DelayTimes, ReplayMp}
+use Rattle.crsm_text_words.specs.declared.order.Task.TheVariants.{Show, Replay, ReplayNode, Client, Operate, Soak, Node, Audit, Lock, Delay, DelayTimes, ReplayMp, Dump}
 use Rattle.crsm_app.specs.Devices.{Devices}
 use Rattle.crsm_app.specs.Locks.{lock_order}
+use Rattle.crsm_app.specs.Parts.{part_of}
 use Rattle.crsm_app.specs.declared.status.Status.{Status}
 
 abbrev pub IsDone : Status → Type 0
@@ -92,6 +96,12 @@ pub record PlansExactly (wanted : Wanted) (left : Option (List ℕ)) (result : S
   pub refused : lines.WhereBad (plans_of wanted) decided left (λ line why. IsRefused line Cause.Unreadable result)
   pub too_long : lines.WhereTooLong (plans_of wanted) decided left (IsTooLong result)
 
+-- A log is dumped, a file on which a boot is refused is refused for the same body, and a longer input too.
+pub record DumpsExactly (me n : ℕ) (part : DumpPart) (left had has : Option (List ℕ)) (result : Status) : Type 0 where
+  pub complete : dumped.WhereLog me n (part_of part) left (λ text. ((result ≡ Status.Ok) × Puts had has text) ⊎ (result ≡ Status.NoMemory))
+  pub refused : dumped.WhereRefused me n left (λ entry why. (result ≡ Status.BadLog entry why) ⊎ (result ≡ Status.NoMemory))
+  pub too_long : dumped.WhereTooLong left ((result ≡ Status.LogTooLong) ⊎ (result ≡ Status.NoMemory))
+
 -- of what was taken: it is done where the reply is among it, and not answered where it is not
 pub record AsksExactly (cluster to : ℕ) (command : Command) (result : Status) (old new : Meaning) (out_old out_new : ℕ) : Type 0 where
   pub complete : WhereReplied cluster to command old new (¬ (Rose out_old out_new) → IsDone result)
@@ -121,3 +131,4 @@ Exactly cluster (Lock t) result old new = LocksExactly t result old.port new.por
 Exactly cluster Delay result old new = WhereFaultless old new (PlansExactly Wanted.Schedule old.left result)
 Exactly cluster DelayTimes result old new = WhereFaultless old new (PlansExactly Wanted.Times old.left result)
 Exactly cluster ReplayMp result old new = WhereFaultless old new (ReplaysMpExactly old.left result)
+Exactly cluster (Dump me n part) result old new = WhereFaultless old new (DumpsExactly me n part old.left old.written new.written result)

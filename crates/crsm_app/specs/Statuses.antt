@@ -4,6 +4,7 @@ use Rattle.crsm_client.specs.declared.command.ClientEnd.{ClientEnd}
 use Rattle.crsm_client.specs.declared.error.OperateError.{OperateError}
 use Rattle.crsm_delay.specs.declared.handling.PlanCause.{PlanCause}
 use Rattle.crsm_port_lines.specs.declared.InputEnd.{InputEnd}
+use Rattle.crsm_cmd_dump.specs.declared.ending.DumpEnd.{DumpEnd}
 use Rattle.crsm_cmd_lock.specs.declared.command.LockEnd.{LockEnd}
 use Rattle.crsm_node.specs.declared.errors.NodeEnd.{NodeEnd}
 use Rattle.crsm_sim_schedule.specs.Causes as schedule
@@ -27,6 +28,7 @@ number_of Status.NoAnswer = 9
 number_of (Status.BadLog entry why) = 10
 number_of Status.LogFull = 11
 number_of Status.InputTooLong = 12
+number_of Status.LogTooLong = 12
 number_of (Status.OtherCluster found) = 13
 
 -- the status of a schedule that ended so
@@ -69,6 +71,15 @@ status_of_delay InputEnd.ReadFault = Status.ReadFault
 status_of_delay InputEnd.WriteFault = Status.WriteFault
 status_of_delay InputEnd.NoMemory = Status.NoMemory
 status_of_delay InputEnd.InputTooLong = Status.InputTooLong
+
+-- the status of a dump that ended so
+abbrev pub status_of_dump : DumpEnd → Status
+status_of_dump DumpEnd.Done = Status.Ok
+status_of_dump (DumpEnd.BadLog entry why) = Status.BadLog entry why
+status_of_dump DumpEnd.ReadFault = Status.ReadFault
+status_of_dump DumpEnd.WriteFault = Status.WriteFault
+status_of_dump DumpEnd.NoMemory = Status.NoMemory
+status_of_dump DumpEnd.LogTooLong = Status.LogTooLong
 
 -- the status of a client that ended so
 abbrev pub status_of_client : ClientEnd → Status

@@ -1,6 +1,7 @@
 //! The command that the words of a command line select.
 
 ghost use Rattle.std.specs.Prelude.{◌≡◌, ◌≢◌, ◌⊎◌, ◌<◌, ◌≤◌, ℕ, IfErr, IfOk, List, MatchResult, Some, length, map, string_bytes};
+ghost use Rattle.crsm_base.specs.Limits.{most_log_bytes};
 ghost use Rattle.crsm_spec.specs.Calm.{IsBounded};
 ghost use Rattle.crsm_spec.specs.Run.{last_world};
 ghost use Rattle.crsm_spec.specs.Safe.{Agreed, Answered, RealTime};
@@ -15,7 +16,7 @@ ghost use Rattle.crsm_text_words.specs.Plans.{plan_of};
 ghost use Rattle.crsm_app.specs.Devices.{devices_of};
 ghost use Rattle.crsm_app.specs.Exact.{Exactly};
 ghost use Rattle.crsm_app.specs.Run.{AskForNothing, AskForTask, FaultsAreCounted, Ran, WhereAsked};
-ghost use Rattle.crsm_app.specs.Tasks.{IsOverPort, IsReader, IsRunner};
+ghost use Rattle.crsm_app.specs.Tasks.{IsLogReader, IsOverPort, IsReader, IsRunner, TakesInput};
 
 use crate::doing::do_order;
 use crate::status::Status;
@@ -80,7 +81,7 @@ fn plans_are_in_time()
 /// a replica and writes its sheet, `client TO TURNS CLIENT NUMBER OP` requests a command from a replica over the port
 /// and writes its outcome, `operate TO MEMBERS` requests a membership change, `lock TO TURNS CLIENT NUMBER KEY ACTION`
 /// requests an action on a lock and writes the result, `audit N` reads the sheets of several nodes and writes the
-/// verdict, `delay` reads a plan of delays and clocks and writes the schedule of its timeline, `delay times` writes
+/// verdict, `dump ME N` reads the log file of a replica and writes what it says, `delay` reads a plan of delays and clocks and writes the schedule of its timeline, `delay times` writes
 /// when its command commits, and `--help` and `--version` write a text. The reporter receives the content of a node's
 /// log.
 pub fn run<I: Source, O: Sink, P: Port, D: Disk, C: Clock, R: Reporter>(
@@ -114,9 +115,12 @@ pub fn run<I: Source, O: Sink, P: Port, D: Disk, C: Clock, R: Reporter>(
     ensures limit { WhereAsked (map string_bytes words.now) (λ order. IsReader order.task →
         (bytes : List ℕ) → I.left input.old ≡ Some bytes → MAX_INPUT_BYTES < length bytes → result ≢ Status.Ok) }
     ensures within { (bytes : List ℕ) → I.left input.old ≡ Some bytes → length bytes ≤ MAX_INPUT_BYTES → result ≢ Status.InputTooLong }
+    ensures log_limit { WhereAsked (map string_bytes words.now) (λ order. IsLogReader order.task →
+        (bytes : List ℕ) → I.left input.old ≡ Some bytes → most_log_bytes < length bytes → result ≢ Status.Ok) }
+    ensures log_within { (bytes : List ℕ) → I.left input.old ≡ Some bytes → length bytes ≤ most_log_bytes → result ≢ Status.LogTooLong }
 
     // A device that the command does not use is unchanged.
-    ensures input { ¬ (AskForTask IsReader (map string_bytes words.now)) → input.new ≡ input.old }
+    ensures input { ¬ (AskForTask TakesInput (map string_bytes words.now)) → input.new ≡ input.old }
     ensures port { ¬ (AskForTask IsOverPort (map string_bytes words.now)) → port.new ≡ port.old }
     ensures disk { ¬ (AskForTask IsRunner (map string_bytes words.now)) → disk.new ≡ disk.old }
     ensures clock { ¬ (AskForTask IsRunner (map string_bytes words.now)) → clock.new ≡ clock.old }

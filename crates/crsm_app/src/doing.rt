@@ -1,17 +1,19 @@
 //! The execution of each task.
 
 ghost use Rattle.std.specs.Prelude.{◌≡◌, ◌≢◌, ◌<◌, ◌≤◌, ◌⊎◌, ℕ, List, Some, length};
+ghost use Rattle.crsm_base.specs.Limits.{most_log_bytes};
 ghost use Rattle.crsm_base.specs.Spelling.{FitsCommand};
 ghost use Rattle.crsm_port_faults.specs.Counts.{Rose};
 ghost use Rattle.crsm_port_lines.specs.Exact as loop_exact;
 ghost use Rattle.crsm_app.specs.Devices.{devices_of};
-ghost use Rattle.crsm_app.specs.Did.{Did, DidAudit, DidClient, DidNode, DidOperate, DidPlan, DidReplay, DidReplayMp, DidSheet, DidSoak, Shows};
-ghost use Rattle.crsm_app.specs.Exact.{AsksExactly, AuditsExactly, Exactly, IsDone, IsNodeDone, WhereNodeFaultless, ReplaysExactly, ReplaysMpExactly, SheetsExactly, PlansExactly};
+ghost use Rattle.crsm_app.specs.Did.{Did, DidAudit, DidClient, DidDump, DidNode, DidOperate, DidPlan, DidReplay, DidReplayMp, DidSheet, DidSoak, Shows};
+ghost use Rattle.crsm_app.specs.Exact.{AsksExactly, AuditsExactly, DumpsExactly, Exactly, IsDone, IsNodeDone, WhereNodeFaultless, ReplaysExactly, ReplaysMpExactly, SheetsExactly, PlansExactly};
 ghost use Rattle.crsm_app.specs.Run.{PortFailed};
-ghost use Rattle.crsm_app.specs.Tasks.{IsOverPort, IsReader, IsRunner, IsWithinLimits};
+ghost use Rattle.crsm_app.specs.Tasks.{IsLogReader, IsOverPort, IsReader, IsRunner, IsWithinLimits, TakesInput};
 ghost use Rattle.crsm_node.specs.Running.{devices_of as node_over};
 ghost use Rattle.crsm_text_words.specs.Orders.{IsNode};
 
+use crate::dumping::run_dump;
 use crate::locking::run_lock;
 use crate::status::{
     Status, client_status, delay_status, node_status, operate_status, replay_mp_status,
@@ -246,8 +248,10 @@ pub(crate) fn do_order<I: Source, O: Sink, P: Port, D: Disk, C: Clock, R: Report
         result ≡ Status.PortFault → PortFailed (at input.old output.old port.old disk.old clock.old) (at input.new output.new port.new disk.new clock.new) order.task }
     ensures disk_fault { let old = D.meaning disk.old in let new = D.meaning disk.new in result ≡ Status.DiskFault → Rose old.faults new.faults }
     ensures limit { IsReader order.task → (bytes : List ℕ) → I.left input.old ≡ Some bytes → MAX_INPUT_BYTES < length bytes → result ≢ Status.Ok }
+    ensures log_limit { IsLogReader order.task → (bytes : List ℕ) → I.left input.old ≡ Some bytes → most_log_bytes < length bytes → result ≢ Status.Ok }
     ensures within { (bytes : List ℕ) → I.left input.old ≡ Some bytes → length bytes ≤ MAX_INPUT_BYTES → result ≢ Status.InputTooLong }
-    ensures input { ¬ (IsReader order.task) → input.new ≡ input.old }
+    ensures log_within { (bytes : List ℕ) → I.left input.old ≡ Some bytes → length bytes ≤ most_log_bytes → result ≢ Status.LogTooLong }
+    ensures input { ¬ (TakesInput order.task) → input.new ≡ input.old }
     ensures port { ¬ (IsOverPort order.task) → port.new ≡ port.old }
     ensures disk { ¬ (IsRunner order.task) → disk.new ≡ disk.old }
     ensures clock { ¬ (IsRunner order.task) → clock.new ≡ clock.old }
@@ -269,5 +273,6 @@ pub(crate) fn do_order<I: Source, O: Sink, P: Port, D: Disk, C: Clock, R: Report
         Task::Delay => run_delay(alloc, input, output),
         Task::DelayTimes => run_delay_times(alloc, input, output),
         Task::ReplayMp => run_replay_mp(alloc, input, output),
+        Task::Dump { me, n, part } => run_dump(alloc, me, n, part, input, output),
     }
 }

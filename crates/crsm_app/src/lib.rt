@@ -4,6 +4,7 @@
 mod command;
 mod devices;
 mod doing;
+mod dumping;
 mod entry;
 mod locking;
 mod replica;

@@ -4,11 +4,15 @@
 use crate::devices::{NoDevice, socket_at, status_over};
 use crate::status::Status;
 use crate::streams::stream_into;
+use crsm_base::NoMemory;
 use crsm_clock::SystemClock;
 use crsm_disk::FileDisk;
 use crsm_ledger::Ledger;
 use crsm_node::{BootReport, Reporter};
-use crsm_port_node::{PacedPort, PeerPort};
+use crsm_port::UdpPort;
+use crsm_port_flow::FlowPort;
+use crsm_port_packets::PacketsPort;
+use crsm_port_peers::PeerPort;
 use crsm_replica_journal::{Journal, Line};
 use crsm_shell::TurnResult;
 use crsm_text_words::{NodeTask, Order, Task, read_words};
@@ -146,6 +150,12 @@ impl<R: AllocGlobal + Eprint> Reporter for StderrReporter<'_, R> {
     }
 }
 
+/// The ports of a replica over its socket.
+type NodePort<'a, R> = FlowPort<
+    PeerPort<PacketsPort<UdpPort, SystemClock<'a, R>>>,
+    SystemClock<'a, R>,
+>;
+
 /// Returns the node of the words, and the number of its cluster.
 fn node_in(alloc: Global, words: &[String]) -> Result<(u64, NodeTask), Status> {
     match read_words(alloc, words) {
@@ -177,6 +187,31 @@ fn open_log<R: Files<File = File>>(rt: &R, name: &str) -> Result<FileDisk, NoDev
     FileDisk::open(rt, name).map_err(NoDevice::Log)
 }
 
+/// Returns the ports of a replica over its socket: packets, the check of senders, and flow control. `NoMemory` if
+/// memory runs out.
+fn port_over<'a, R: AllocGlobal + Clock>(
+    rt: &'a R,
+    socket: UdpPort,
+    place: NodeIdentity,
+    peers: &[u64],
+) -> Result<NodePort<'a, R>, NoMemory> {
+    let mut others = Vec::new(rt.alloc());
+    for address in peers {
+        if *address != place.address {
+            others.push(*address)?;
+        }
+    }
+    let packets = PacketsPort::new(rt.alloc(), socket, SystemClock::new(rt), others.as_slice())?;
+    let checked = PeerPort::new(packets, Vec::from_slice(rt.alloc(), peers)?);
+    FlowPort::new(
+        rt.alloc(),
+        checked,
+        SystemClock::new(rt),
+        place.me as usize,
+        peers,
+    )
+}
+
 /// Runs a replica over a socket at its address and its log file. Packets of a replica are accepted only from its own
 /// address.
 fn run_at<R: AllocGlobal + Clock + Eprint + Files<File = File> + Input + Net + Print>(
@@ -188,15 +223,11 @@ fn run_at<R: AllocGlobal + Clock + Eprint + Files<File = File> + Input + Net + P
     let Ok(name) = format!(in rt.alloc(); "crsm-{}.log", place.me) else {
         return Ok(Status::NoMemory);
     };
-    let Ok(peers) = Vec::from_slice(rt.alloc(), peers) else {
-        return Ok(Status::NoMemory);
-    };
     let mut disk = open_log(rt, name.as_str())?;
     let socket = socket_at(rt, place.address)?;
-    let Ok(paced) = PacedPort::new(rt.alloc(), socket, SystemClock::new(rt)) else {
+    let Ok(mut port) = port_over(rt, socket, place, peers) else {
         return Ok(Status::NoMemory);
     };
-    let mut port = PeerPort::new(paced, peers);
     let mut reporter = StderrReporter {
         rt,
         place,

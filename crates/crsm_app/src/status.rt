@@ -1,9 +1,10 @@
 //! The status of a run, and its exit status.
 
 ghost use Rattle.std.specs.Prelude.{◌≡◌};
-ghost use Rattle.crsm_app.specs.Statuses.{number_of, status_of_client, status_of_delay, status_of_lock, status_of_node, status_of_operate, status_of_refused, status_of_replay, status_of_replay_mp, status_of_sheet};
+ghost use Rattle.crsm_app.specs.Statuses.{number_of, status_of_client, status_of_delay, status_of_dump, status_of_lock, status_of_node, status_of_operate, status_of_refused, status_of_replay, status_of_replay_mp, status_of_sheet};
 
 use crsm_client::{ClientEnd, OperateError};
+use crsm_cmd_dump::DumpEnd;
 use crsm_cmd_lock::LockEnd;
 use crsm_cmd_replay_node::{SheetCause, told_cause as cause_in_sheet};
 use crsm_delay::PlanCause;
@@ -42,6 +43,8 @@ pub enum Status {
     LogFull,
     /// The input has more than 1,073,741,824 bytes.
     InputTooLong,
+    /// The input, which is to be a log file, has more than 4,294,967,296 bytes.
+    LogTooLong,
     /// The log belongs to the cluster with the number `found`.
     OtherCluster { found: u64 },
 }
@@ -63,7 +66,7 @@ impl Status {
             Status::NoAnswer => 9,
             Status::BadLog { .. } => 10,
             Status::LogFull => 11,
-            Status::InputTooLong => 12,
+            Status::InputTooLong | Status::LogTooLong => 12,
             Status::OtherCluster { .. } => 13,
         }
     }
@@ -144,6 +147,20 @@ pub(crate) fn delay_status(ending: InputEnd<PlanCause>) -> Status
         InputEnd::WriteFault => Status::WriteFault,
         InputEnd::NoMemory => Status::NoMemory,
         InputEnd::InputTooLong => Status::InputTooLong,
+    }
+}
+
+/// Returns the status of a dump with this end.
+pub(crate) fn dump_status(ended: DumpEnd) -> Status
+    ensures { result ≡ status_of_dump ended }
+{
+    match ended {
+        DumpEnd::Done => Status::Ok,
+        DumpEnd::BadLog { entry, why } => Status::BadLog { entry, why },
+        DumpEnd::ReadFault => Status::ReadFault,
+        DumpEnd::WriteFault => Status::WriteFault,
+        DumpEnd::NoMemory => Status::NoMemory,
+        DumpEnd::LogTooLong => Status::LogTooLong,
     }
 }
 
@@ -249,6 +266,7 @@ impl Display for Status {
             Status::LogFull => f.write_str("the log is full"),
             Status::OtherCluster { found } => write!(f, "the log is one of cluster {found}"),
             Status::InputTooLong => f.write_str("the input has more than 1073741824 bytes"),
+            Status::LogTooLong => f.write_str("the input has more than 4294967296 bytes"),
         }
     }
 }

@@ -1,7 +1,8 @@
 //! Reads tables from the standard input, and writes what nodes, clients and their ports make of their lines.
 //!
 //! A line `table NAME` names the table of the lines behind it, up to the next such line, and is written through. The
-//! module of a table says what its lines are: `boot`, `node`, `journal`, `detector`, `client`, `peer_port` and `paced_port`.
+//! module of a table says what its lines are: `boot`, `node`, `journal`, `detector`, `client`, `peer_port`,
+//! `packets_port` and `flow_port`.
 #![tactic(auto)]
 
 mod boot;
@@ -10,11 +11,12 @@ mod detector;
 mod devices;
 mod disks;
 mod fault;
+mod flow_port;
 mod journal;
 mod lock;
 mod node;
-mod paced_port;
 mod packets;
+mod packets_port;
 mod peer_port;
 mod script;
 mod table;
@@ -38,7 +40,8 @@ fn push_table(alloc: Global, name: &str, lines: &str, out: &mut Bytes) -> Result
         "detector" => detector::push_all(alloc, lines, out),
         "client" => client::push_all(alloc, lines, out),
         "peer_port" => peer_port::push_all(alloc, lines, out),
-        "paced_port" => paced_port::push_all(alloc, lines, out),
+        "packets_port" => packets_port::push_all(alloc, lines, out),
+        "flow_port" => flow_port::push_all(alloc, lines, out),
         _ => Err(Fault::Unreadable),
     }
 }

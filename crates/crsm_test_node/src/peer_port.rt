@@ -7,7 +7,7 @@ use crate::fault::Fault;
 use crate::table::push_answer;
 use crsm_base::{Bytes, NoMemory};
 use crsm_port::{MemPort, Port, Recv};
-use crsm_port_node::PeerPort;
+use crsm_port_peers::PeerPort;
 use crsm_text::{LineError, hex_of, number_field};
 use std::alloc::Global;
 

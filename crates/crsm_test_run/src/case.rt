@@ -93,6 +93,15 @@ fn disk_of(alloc: Global, header: &str) -> Result<MemDisk, Fault> {
     Ok(disk)
 }
 
+/// Returns the input of a case: of `hex` its bytes are in hexadecimal, on one line.
+fn input_of(alloc: Global, header: &str, text: &str, fails: &[u64]) -> Result<MemSource, Fault> {
+    if !header.ends_with(" hex") {
+        return Ok(source_of(alloc, header, text, fails)?);
+    }
+    let bytes = hex_of(alloc, text.trim_end().as_bytes())?;
+    Ok(MemSource::new(alloc, bytes.as_slice(), fails)?)
+}
+
 /// Returns the devices of a case: of `read K` the K-th read fails, of `write K` the K-th write, and `clock` has the
 /// readings.
 fn devices_of(alloc: Global, header: &str, datagrams: &str, text: &str) -> Result<Devices, Fault> {
@@ -100,7 +109,7 @@ fn devices_of(alloc: Global, header: &str, datagrams: &str, text: &str) -> Resul
     let writes = numbers_behind(alloc, header, " write ")?;
     let readings = numbers_behind(alloc, header, " clock ")?;
     Ok(Devices {
-        input: source_of(alloc, header, text, &reads)?,
+        input: input_of(alloc, header, text, &reads)?,
         output: sink_of(alloc, &writes)?,
         port: port_of(alloc, header, datagrams)?,
         disk: disk_of(alloc, header)?,

@@ -3,7 +3,7 @@ use Rattle.crsm_text_words.specs.Answers.{OrderRefused}
 use Rattle.crsm_text_words.specs.declared.order.Order.{Order}
 use Rattle.crsm_text_words.specs.declared.read.WordsError.{WordsError}
 use Rattle.crsm_app.specs.Run.{at_fault, did, no_memory}
-use Rattle.crsm_app.specs.Tasks.{IsReader}
+use Rattle.crsm_app.specs.Tasks.{IsLogReader, IsReader}
 use Rattle.crsm_app.proofs.Asked.{not_idle, not_usage, read_so, within_limits}
 use Rattle.crsm_app.proofs.Scarce.{without_memory}
 use Rattle.crsm_app.proofs.command.run.Goals as goal
@@ -39,6 +39,11 @@ pub returns-in-Ok-clause-limit : goal.returns-in-Ok-clause-limit
 returns-in-Ok-clause-limit g c = λ plain order asks reads.
     let same = read_so c.read_words.result c.in-Ok.order order c.in-Ok.is (c.read_words.ensures.only plain order asks) in
     c.do_order.ensures.limit (subst (λ (o : Order). IsReader o.task) (sym same) reads)
+
+pub returns-in-Ok-clause-log_limit : goal.returns-in-Ok-clause-log_limit
+returns-in-Ok-clause-log_limit g c = λ plain order asks reads.
+    let same = read_so c.read_words.result c.in-Ok.order order c.in-Ok.is (c.read_words.ensures.only plain order asks) in
+    c.do_order.ensures.log_limit (subst (λ (o : Order). IsLogReader o.task) (sym same) reads)
 
 pub returns-in-Ok-clause-input : goal.returns-in-Ok-clause-input
 returns-in-Ok-clause-input g c = λ not_reading. c.do_order.ensures.input (λ reads. not_reading (record { order = c.in-Ok.order; made = c.in-Ok.ensures.any; kind = reads }))

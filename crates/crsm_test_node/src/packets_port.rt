@@ -1,7 +1,8 @@
-//! The table `paced_port`: what each send and receive of a port that paces gave, and behind `>` what went out.
+//! The table `packets_port`: what each send and receive of a port of packets gave, and behind `>` what went out.
 //!
 //! A row has the steps of a port: `put:FROM:HEX` is a datagram that waits, `fail:K` a call of the port below that
-//! fails, and then, in order, `reserve:T` makes room at the clock's reading T, `send:TO:HEX` sends and `recv` receives.
+//! fails, and then, in order, `reserve:T` makes room at the clock's reading T, `send:TO:HEX` sends, `recv` receives and
+//! `flush` ends a group. The peers are at the addresses 7001 and 7002.
 
 use crate::fault::Fault;
 use crate::packets::{packet_of, push_packet, push_sent, put_packet};
@@ -10,17 +11,20 @@ use crate::words::number_of;
 use crsm_base::Bytes;
 use crsm_clock::ListClock;
 use crsm_port::{MemPort, Port, Recv};
-use crsm_port_node::PacedPort;
+use crsm_port_packets::PacketsPort;
 use std::alloc::Global;
 use std::str::from_utf8;
 
 /// How many bytes a receive has room for.
-const ROOM: usize = 64;
+const ROOM: usize = 8_192;
+
+/// The addresses of the peers.
+const PEERS: [u64; 2] = [7001, 7002];
 
 /// The room that is made at the port below, for all that goes out.
 const SENDS: u64 = 64;
 
-const BYTES: u64 = 4096;
+const BYTES: u64 = 65_536;
 
 /// What a row says of the port below and of the clock.
 #[derive(Drop)]
@@ -81,6 +85,10 @@ fn take_step<P: Port>(
     if step == "recv" {
         return receive(port, text);
     }
+    if step == "flush" {
+        port.flush();
+        return Ok(());
+    }
     let (name, word) = step.split_once(":").ok_or(Fault::Unreadable)?;
     match name {
         "reserve" => port.reserve(0, 0)?,
@@ -88,7 +96,7 @@ fn take_step<P: Port>(
             let (to, bytes) = packet_of(alloc, word)?;
             let said: &[u8] = match port.send(to, bytes.as_slice()) {
                 Ok(()) => b" sent",
-                Err(_) => b" held",
+                Err(_) => b" lost",
             };
             text.append(said)?;
         }
@@ -102,7 +110,7 @@ fn take_step<P: Port>(
 fn run_row(alloc: Global, row: &str) -> Result<String, Fault> {
     let mut devices = devices_of(alloc, row)?;
     let mut text = Bytes::new(alloc);
-    let mut port = PacedPort::new(alloc, &mut devices.port, &mut devices.clock)?;
+    let mut port = PacketsPort::new(alloc, &mut devices.port, &mut devices.clock, &PEERS)?;
     for step in row.split(' ') {
         take_step(alloc, &mut port, step, &mut text)?;
     }
