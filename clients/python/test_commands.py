@@ -83,6 +83,26 @@ class CommandsTest(ClusterTest):
         self.assertEqual(self.store.rows, {b"a": b"\xff\n\0", b"\xff\0": b"\1\3", b"-x": b"-y"})
         self.check(["put", "d", "1"], 1, err="full")
 
+    def test_load(self):
+        dump = b"cluster 9\nbodies 3\nepoch 0\nmembers 0,1\nreplicas 0,1\nexecuted 4\npromised 0 0\n"
+        dump += b"key 61 62\nkey 63 empty\nclient 7 2 done\n"
+        self.check(["load", "--clients", "2"], 0, b"2 keys put, 0 there already, 0 with another value\n", given=dump)
+        self.assertEqual(self.store.rows, {b"a": b"b", b"c": b""})
+        self.store.rows = {b"a": b"b", b"c": b"x"}
+        self.check(["load"], 1, b"0 keys put, 1 there already, 1 with another value\n", "another value: 63", given=dump)
+        self.check(["load", "--replace"], 0, b"1 keys put, 1 there already, 0 with another value\n", given=dump)
+        self.assertEqual(self.store.rows, {b"a": b"b", b"c": b""})
+        self.check(["load"], 0, b"0 keys put, 0 there already, 0 with another value\n", given=b"bodies 0\n")
+        self.check(["load"], 1, err="full", given=b"key 61 62\nkey 62 62\nkey 63 64\nkey 64 65\n")
+
+    def test_load_of_no_dump(self):
+        self.check(["load"], 2, err="line 2 is none of a dump", given=b"key 61 62\nkey 6 62\n")
+        self.check(["load"], 2, err="line 1 is none of a dump", given=b"key 61 62")
+        self.check(["load"], 2, err="line 1 is none of a dump", given=b"put 61 62\n")
+        self.check(["load"], 2, err="no line came")
+        self.check(["load", "--clients", "0"], 2, err="one client", given=b"key 61 62\n")
+        self.assertEqual(self.store.rows, {})
+
     def test_operate(self):
         host, port = self.dead().getsockname()
         here = f"{self.served.address[0]}:{self.served.address[1]},{host}:{port}"

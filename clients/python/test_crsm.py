@@ -220,6 +220,23 @@ class ClientTest(ClusterTest):
         self.assertEqual(self.store.done, 1)
         self.assertEqual(len({bytes(taken) for taken in first.taken + second.taken}), 1)
 
+    def test_a_node_whose_epoch_ends_is_asked_again(self):
+        first, second = self.node(refuse=[2, 6, 2]), self.node()
+        self.client(first, second).put("a", "1")
+        self.assertEqual((len(first.taken), second.taken), (4, []))
+        self.assertLess(first.times[-1] - first.times[0], 3 * FAST["resend"])
+
+    def test_a_silent_node_is_avoided(self):
+        first, last = self.node(), self.node()
+        client = self.client(first, self.dead(), last)
+        first.refuse = [3]
+        client.put("a", "1")
+        first.refuse, last.refuse = [3], [3, 3]
+        began = time.monotonic()
+        client.put("a", "2")
+        self.assertLess(time.monotonic() - began, FAST["node_timeout"])
+        self.assertEqual(self.store.done, 2)
+
     def test_done_by_a_node_that_is_not_heard(self):
         first, second = self.node(mute=9), self.node(refuse=[6])
         self.assertTrue(self.client(first, second).cas("a", None, "1"))

@@ -219,10 +219,7 @@ class AsyncClient:
         async with self._lock:
             try:
                 exchange = self._session.begin(operation, time.monotonic())
-                try:
-                    answer = await self._run(exchange)
-                finally:
-                    self._session.leave(exchange)
+                answer = await self._run(exchange)
             finally:
                 self._close_if_told()
         return self._session.checked(operation, answer)

@@ -243,11 +243,7 @@ class Client:
         self._lock.acquire()
         try:
             exchange = self._session.begin(operation, time.monotonic())
-            try:
-                answer = self._run(exchange)
-            finally:
-                self._session.leave(exchange)
-            return self._session.checked(operation, answer)
+            return self._session.checked(operation, self._run(exchange))
         finally:
             self._release()
 

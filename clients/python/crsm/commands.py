@@ -91,6 +91,7 @@ def _reader() -> argparse.ArgumentParser:
     add(delete, "removes a key").add_argument("key")
     _add_cas(add(cas, "sets a key where it has an expected value"))
     _add_lock(add(lock, "holds a lock while a command runs, whose environment has the fence as CRSM_FENCE"))
+    _add_load(add(load, "puts the keys of a dump into the cluster, and compares: crsm dump ME N < LOG | .. load"))
     _add_operate(add(operate, "asks for these members, twice, and waits until each of them answers"))
     _add_bench(add(bench, "measures commands a second; it puts keys bench-0, bench-1, .. and deletes them"))
     return reader
@@ -131,6 +132,11 @@ def _add_lock(to: argparse.ArgumentParser) -> None:
     to.add_argument("--wait", metavar="S", type=float, help="seconds to wait while another holds it; no end by default")
     text = "takes it from the holder who has this fence, and is known to be gone"
     to.add_argument("--break", dest="fence", metavar="FENCE", type=int, help=text)
+
+
+def _add_load(to: argparse.ArgumentParser) -> None:
+    to.add_argument("--clients", metavar="N", type=int, default=8, help="clients at a time; 8")
+    to.add_argument("--replace", action="store_true", help="keys that have another value get the dump's, too")
 
 
 def _add_operate(to: argparse.ArgumentParser) -> None:
@@ -223,6 +229,24 @@ def lock(words: argparse.Namespace) -> int:
             raise
         given = _give(held)
         return status or given
+
+
+def load(words: argparse.Namespace) -> int:
+    """Puts the keys of a dump that standard input has, compares, and writes what that came to."""
+    if words.clients < 1:
+        raise Failed(Status.USAGE, "load: one client at least")
+    # (not at the head of the file: the other commands start in half the time without asyncio)
+    from .load import Target, keys_of, put_all
+
+    keys = keys_of(sys.stdin.buffer)
+    with contextlib.ExitStack() as files:
+        numbers = [files.enter_context(_numbers(words)) for _ in range(words.clients)]
+        target = Target(words.nodes.split(","), numbers, words.cluster, words.timeout or None)
+        loaded = put_all(target, keys, replaces=words.replace)
+    _write(f"{loaded}\n".encode())
+    for key in loaded.differing:
+        _say(Status.NO, f"another value: {key.hex()}")
+    return Status.NO if loaded.differing else Status.OK
 
 
 def operate(words: argparse.Namespace) -> int:

@@ -6,7 +6,7 @@ wait until it has something new to send.
 
 import math
 from collections.abc import Iterable, Sequence
-from dataclasses import dataclass, replace
+from dataclasses import dataclass, field, replace
 
 from .errors import REFUSALS, Closed, CrsmError, NoAnswer, Refused, Stale
 from .numbers import Numbers
@@ -24,6 +24,12 @@ from .protocol import (
 
 # A replica takes each copy of a request for an entry of its own, so copies do not follow one another faster.
 LEAST_RESEND = 0.1
+# What was refused is no entry: it is sent again after this time, as an epoch ends in tens of milliseconds.
+AFTER_REFUSAL = 0.03
+# The refusal of a node that is no member, and those of one that will answer soon: its epoch ends, or has ended.
+NO_PART, EPOCH_ENDS = 1, (2, 6)
+# How long a node that was silent, and one that takes no part, is asked only where no other one is left.
+SILENT_FOR, NO_PART_FOR = 10.0, 2.0
 
 
 @dataclass(frozen=True)
@@ -40,26 +46,34 @@ class Times:
             raise ValueError(f"a request is sent again after {LEAST_RESEND} seconds or more")
 
 
+@dataclass
+class Ring:
+    """The nodes in their order, the one that is asked, those that have been heard, and until when each is avoided."""
+
+    nodes: list[Address]
+    at: int = 0
+    heard: set[Address] = field(default_factory=set)
+    avoided: dict[int, float] = field(default_factory=dict)
+
+    def go_on(self, now: float, pause: float) -> None:
+        """Avoids the node that was asked for `pause` seconds, and turns to the next one: to one that is not avoided and
+        has been heard, where there is one."""
+        self.avoided[self.at] = now + pause
+        count = len(self.nodes)
+        others = [(self.at + step) % count for step in range(1, count + 1)]
+        self.at = min(others, key=lambda it: (self.avoided.get(it, now) > now, self.nodes[it] not in self.heard))
+
+
 class Exchange:
     """The request of a client's command, sent to the nodes in turn until one of them answers.
 
-    Times are those of a clock that never goes back, in seconds. `at` is the node that is asked, `code` the last refusal
-    or 0.
+    Times are those of a clock that never goes back, in seconds. `code` is the last refusal or 0.
     """
 
-    def __init__(
-        self,
-        request: bytes,
-        mark: bytes,
-        name: tuple[int, int],
-        nodes: list[Address],
-        at: int,
-        times: Times,
-        now: float,
-    ):
+    def __init__(self, request: bytes, mark: bytes, name: tuple[int, int], ring: Ring, times: Times, now: float):
         self.datagram = mark + request
-        self.at, self.code = at, 0
-        self._mark, self._name, self._nodes, self._times = mark, name, nodes, times
+        self.code = 0
+        self._mark, self._name, self._ring, self._times = mark, name, ring, times
         self._asked: set[Address] = set()
         self._sent, self._refused = 0, 0
         self._due = now
@@ -73,14 +87,15 @@ class Exchange:
     def address_due(self, now: float) -> Address | None:
         """Returns the node that the datagram is to be sent to now, or None before the next copy's time."""
         if now >= self._leave:
-            self._go_on(now)
+            self._go_on(now, SILENT_FOR)
         if now < self._due:
             return None
         resend = self._times.resend
         # The last copy has its time to be answered, too.
         self._due = now + resend if now + 2 * resend <= self._deadline else self._deadline
-        self._asked.add(self._nodes[self.at])
-        return self._nodes[self.at]
+        address = self._ring.nodes[self._ring.at]
+        self._asked.add(address)
+        return address
 
     def was_sent(self) -> None:
         """Counts a copy that went out. One that the system refuses to send is none."""
@@ -93,11 +108,12 @@ class Exchange:
     def take(self, data: bytes, source: Address, now: float) -> Answer | None:
         """Takes a datagram from an address. Returns the answer to the command where it has one.
 
-        A refusal leads on to the next node. What comes from a node that was not asked, or is no reply to this command,
-        changes nothing.
+        A refusal leads on to the next node, but for one at the end of an epoch: that node is asked again. What comes
+        from a node that was not asked, or is no reply to this command, changes nothing.
         """
         if source not in self._asked or not data.startswith(self._mark):
             return None
+        self._ring.heard.add(source)
         reply = reply_of(data[len(self._mark) :])
         if reply is None or (reply.client, reply.number) != self._name:
             return None
@@ -105,7 +121,10 @@ class Exchange:
             return reply.outcome
         self._refused += 1
         self.code = reply.outcome
-        self._go_on(now)
+        if source == self._ring.nodes[self._ring.at]:
+            self._due = min(self._due, now + AFTER_REFUSAL)
+            if self.code not in EPOCH_ENDS:
+                self._go_on(now, NO_PART_FOR if self.code == NO_PART else 0.0)
         return None
 
     def failure(self) -> CrsmError:
@@ -115,22 +134,22 @@ class Exchange:
         client, number = self._name
         return NoAnswer(f"no answer to command {number} of client {client} in {self._times.timeout} seconds")
 
-    def _go_on(self, now: float) -> None:
-        """Turns to the next node."""
-        self.at = (self.at + 1) % len(self._nodes)
+    def _go_on(self, now: float, pause: float) -> None:
+        """Turns to another node."""
+        self._ring.go_on(now, pause)
         self._leave = now + self._times.node_timeout
 
 
 class Session:
-    """What a client knows from one command to the next: the nodes and the one that it asks, its numbers, its times."""
+    """What a client knows from one command to the next: the nodes and the one that answered last, its numbers, its times."""
 
     def __init__(self, nodes: Sequence[str | Address], cluster: int, client: int | Numbers | None, times: Times):
         self.nodes = addresses_of(nodes)
+        self._ring = Ring(self.nodes)
         self.mark = mark_of(cluster)
         self.times = times
         self.numbers = client if isinstance(client, Numbers) else Numbers(client)
         self.is_closed = False
-        self._at = 0
 
     def check_open(self) -> None:
         """Raises `Closed` once the client is closed."""
@@ -141,11 +160,7 @@ class Session:
         """Returns the exchange of a new command, which goes first to the node that answered last."""
         self.check_open()
         name = (self.numbers.client, self.numbers.next())
-        return Exchange(request_of(*name, operation), self.mark, name, self.nodes, self._at, self.times, now)
-
-    def leave(self, exchange: Exchange) -> None:
-        """Notes which node a command was at when it ended: the next one begins there."""
-        self._at = exchange.at
+        return Exchange(request_of(*name, operation), self.mark, name, self._ring, self.times, now)
 
     def checked(self, operation: Operation, answer: Answer) -> Answer:
         """Returns the answer to an operation, or raises what `Operation.check` does."""
@@ -160,7 +175,7 @@ class Session:
         self.check_open()
         name = (self.numbers.client, self.numbers.next())
         times = replace(self.times, timeout=max(until - now, self.times.resend))
-        return Exchange(request_of(*name, get_of(b"\0")), self.mark, name, [self.nodes[node]], 0, times, now)
+        return Exchange(request_of(*name, get_of(b"\0")), self.mark, name, Ring([self.nodes[node]]), times, now)
 
     def members_request(self, members: Iterable[int], via: int | None, sure: bool) -> tuple[bytes, Address]:
         """Returns the datagram that asks for members, and the node that gets it. Raises as `members_of` does."""
