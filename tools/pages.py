@@ -5,8 +5,8 @@ import re
 import subprocess
 import sys
 
-# The operations of `client` and the actions of `lock`, which stand behind other words.
-AFTER = {'client': (4, ['get', 'put', 'del', 'cas']), 'lock': (5, ['take', 'give', 'break']), 'delay': (0, ['times'])}
+# The words that stand behind other words: operations of `client`, actions of `lock`, and the like.
+AFTER = {'client': (4, ['get', 'put', 'del', 'cas']), 'lock': (5, ['take', 'give', 'break']), 'delay': (0, ['times']), 'dump': (2, ['state', 'keys'])}
 
 
 def help_of(program, *words):
