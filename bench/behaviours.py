@@ -259,7 +259,7 @@ def check_shared(entries: list[Entry], notes: list[Asked], first: dict[tuple[int
 
 def run(words: argparse.Namespace, folder: str) -> None:
     """Tries all rows, and prints the table."""
-    how = {"program": words.program, "nodes": 3, "seed": words.seed, "faults": ["kill"], "clients": 0, "seconds": 0.0}
+    how = {"program": words.program, "nodes": 3, "seed": words.seed, "faults": ["kill"], "clients": 0, "seconds": 0.0, "other": None}
     cluster = Cluster(argparse.Namespace(**how), folder)
     try:
         with closing(cluster.control):

@@ -1,11 +1,12 @@
 """Chaos: a cluster of real processes under faults, and whether it kept every promise.
 
     python3 bench/chaos.py PROGRAM [--nodes N] [--seconds S] [--seed K] [--clients C] [--faults F,F] [--keep FOLDER]
+                           [--other PROGRAM]
 
-starts N nodes (3 or 5) behind a network that loses, repeats and delays packets, has clients ask them, and for S seconds
-kills nodes and starts them again, pauses them, cuts links, leaves torn bytes behind a log and replaces a node by a new
-number. What happens is drawn from the seed; when the system runs what is not. Then it lets the cluster settle and
-judges what the sheets and the clients say:
+starts N nodes (3, 5 or 7; each second one with the other program, as where releases are mixed) behind a network that
+loses, repeats and delays packets, has clients ask them, and for S seconds kills nodes and starts them again, pauses
+them, cuts links, leaves torn bytes behind a log and replaces a node by a new number. What happens is drawn from the
+seed; when the system runs what is not. Then it lets the cluster settle and judges what the sheets and the clients say:
 
 - each sheet replays with status 0, and the audit of all of them agrees, where the program has it;
 - the lists of all nodes are prefixes of one list, and what a command is answered is what a store of its own in Python
@@ -166,8 +167,9 @@ class Cluster:
         spare = 2 if "replace" in words.faults else 0
         self.addresses = free_addresses(words.nodes + spare)
         self.network = Network(self.addresses, Weather(0.01, 0.01, 0.05, 0.05), random.Random(words.seed + 1))
+        programs = [words.program, words.other or words.program]
         self.nodes = [
-            Node(words.program, f"{folder}/{at}", at, words.nodes, self.network.peers_of(at))
+            Node(programs[at % 2], f"{folder}/{at}", at, words.nodes, self.network.peers_of(at))
             for at in range(len(self.addresses))
         ]
         texts = [text_of(it) for it in self.addresses]
@@ -449,7 +451,8 @@ def read_words() -> argparse.Namespace:
     """The words of the command line."""
     reader = argparse.ArgumentParser(description=__doc__, formatter_class=argparse.RawDescriptionHelpFormatter)
     reader.add_argument("program", type=os.path.abspath)
-    reader.add_argument("--nodes", type=int, default=3, choices=[3, 5])
+    reader.add_argument("--nodes", type=int, default=3, choices=[3, 5, 7])
+    reader.add_argument("--other", type=os.path.abspath)
     reader.add_argument("--seconds", type=float, default=30.0)
     reader.add_argument("--seed", type=int, default=1)
     reader.add_argument("--clients", type=int, default=4)

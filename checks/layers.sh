@@ -17,7 +17,8 @@ declare -A speaks_of=(
   [crsm_law_shown]=' crsm_port crsm_client crsm_lease crsm_cmd_lock '
   [crsm_law_wishes]=' crsm_replica_io crsm_shell crsm_replica_detector '
   [crsm_law_alarms]=' crsm_codec crsm_ledger crsm_text_sheet crsm_audit '
-  [crsm_law_nodes]=' crsm_ledger crsm_schedule crsm_text_sheet crsm_wire crsm_port_node crsm_replica_rerun '
+  [crsm_law_processes]=' crsm_codec crsm_ledger '
+  [crsm_law_nodes]=' crsm_ledger crsm_schedule crsm_text_sheet crsm_wire crsm_port_peers crsm_replica_rerun '
 )
 
 declare -A rank=() room_of=() uses=()
