@@ -144,7 +144,7 @@ class Trial:
         while time.monotonic() < began + limit:
             time.sleep(SLOT)
             end = time.monotonic()
-            if end > began + 0.2 and self.answered(end - 0.2 - SLOT, end - SLOT) >= HEALTHY * wanted * 0.2:
+            if end > began + 0.2 and self.answered(end - 0.2 - SLOT, end - SLOT) >= HEALTHY * wanted * 0.2 / self.patience:
                 return end - 0.2 - began
         return limit
 
