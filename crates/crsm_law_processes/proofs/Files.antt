@@ -67,7 +67,7 @@ more_length : (log : Log) (recs : List Rec) → length (with_records log recs) �
 more_length log [] = omega arith
 more_length log (rec ∷ recs) = let t = more_length (rec ∷ log) recs in omega (arith, t)
 
-kept_size : (me n : ℕ) (log : Log) (bodies : List (List ℕ)) (end : Log) → AreKept me n log bodies end → length end ≤ length log + size_of bodies
+pub kept_size : (me n : ℕ) (log : Log) (bodies : List (List ℕ)) (end : Log) → AreKept me n log bodies end → length end ≤ length log + size_of bodies
 unfolding size_of
 kept_size me n log [] end p = let e = ap (λ (l : Log). length l) p in omega (arith, e)
 kept_size me n log (body ∷ bodies) end p =
@@ -165,12 +165,12 @@ module _ (one : BodiesHaveOne) (n : ℕ) (ls : List Life) (h : List Event) (r : 
   is_history most = record { most = most; lawful = (lives_are_lawful n ls h most ran).lawful; short = short }
 
 -- the turns are the same
-all_turns : (gs : List Group) (lost : List (Turn × ℕ)) → kept_turns (gs ++ record { turns = lost; fates = [] } ∷ []) ≡ kept_turns gs ++ lost
+pub all_turns : (gs : List Group) (lost : List (Turn × ℕ)) → kept_turns (gs ++ record { turns = lost; fates = [] } ∷ []) ≡ kept_turns gs ++ lost
 unfolding kept_turns
 all_turns [] lost = append-nil lost
 all_turns (g ∷ gs) lost = ap (λ z. g.turns ++ z) (all_turns gs lost) ∙ sym (append_assoc g.turns (kept_turns gs) lost)
 
-kept_after_all : (l : Life) → IsProcess l → IsProcess (with_lost_kept l)
+pub kept_after_all : (l : Life) → IsProcess l → IsProcess (with_lost_kept l)
 unfolding with_lost_kept
 kept_after_all l p = record {
   number = p.number;

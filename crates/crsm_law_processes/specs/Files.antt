@@ -11,12 +11,12 @@ use Rattle.crsm_law_lives.specs.Premises.{IsProcess, NobodyForges}
 unfoldable pub size_of : List (List ℕ) → ℕ
 size_of bodies = sum_by length bodies
 
--- The process found the log of the first bodies, and the second ones have the log of its kept turns. A log file has at
--- most 2^32 bytes.
+-- The process found the log of the first bodies, and the second ones have the log of its kept turns, in at most 2^50
+-- bytes.
 pub record LeavesBodies (n : ℕ) (l : Life) (found left : List (List ℕ)) : Type 0 where
   pub found_log : AreKept l.me n [] found l.found
   pub left_log : AreKept l.me n [] left (left_by n l)
-  pub small : size_of left ≤ 2 ^ 32
+  pub small : size_of left ≤ 2 ^ 50
 
 -- The processes of one node: the first finds these bodies, each other one those that the one before it left, and begins
 -- after that one has ended.

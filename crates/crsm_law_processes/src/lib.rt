@@ -6,7 +6,7 @@ ghost use Rattle.crsm_law_processes.specs.Laws.{ProcessesAreHistories, StepsOfPr
 
 use crsm_codec::one_spelling_each;
 
-/// If each process of a node finds the bodies that the one before it left, in log files of at most 2^32 bytes, and
+/// If each process of a node finds the bodies that the one before it left, in log files whose bodies take at most 2^50 bytes, and
 /// nobody sends in a replica's name, the processes make a lawful history, and no log of it is long.
 pub fn processes_are_histories()
     ensures { ProcessesAreHistories }

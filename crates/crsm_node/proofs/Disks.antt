@@ -5,7 +5,7 @@ use Rattle.crsm_disk.specs.Meaning.{LeavesOnly, Meaning, Only, Same}
 use Rattle.crsm_log.specs.Format.{bodies_in, bodies_of, found, reading}
 use Rattle.crsm_spec.specs.Lists.{IsPrefixOf}
 use Rattle.crsm_shell.specs.Flushing.{Adds, IsFull, IsLeft}
-use Rattle.crsm_node.specs.Kept.{HasAll, HasBehind, IsLeftOf, PutInTurn, body_if_some}
+use Rattle.crsm_node.specs.Kept.{HasBehind, HasBehindOrMore, IsLeftOf, PutInTurn, body_if_some}
 
 -- ---- the bodies
 
@@ -54,17 +54,16 @@ left_by_flush before bodies (x ∷ body) b file has (inr h) = record {
 }
 
 -- all bodies of before are synced, and that of the flush may be
-pub synced_by_flush : (before : List ℕ) (bodies : List (List ℕ)) (body b file : List ℕ) → HasBehind before bodies b → IsLeft (bodies_of b) body file → HasAll before bodies file
-synced_by_flush before bodies body b file has (inl without) = ([], without ∙ ap found (bodies_read b (bodies_of before ++ bodies) has ∙ ap (λ (xs : List (List ℕ)). bodies_of before ++ xs) (sym (append-nil bodies))))
-synced_by_flush before bodies body b file has (inr h) = (
-  body ∷ [],
+pub synced_by_flush : (before : List ℕ) (bodies : List (List ℕ)) (body b file : List ℕ) → HasBehind before bodies b → IsLeft (bodies_of b) body file → HasBehindOrMore before bodies body file
+synced_by_flush before bodies body b file has (inl without) = inl (without ∙ ap found (bodies_read b (bodies_of before ++ bodies) has))
+synced_by_flush before bodies body b file has (inr h) = inr (
+  h.0,
   h.1 ∙ ap (λ (xs : List (List ℕ)). found (xs ++ body ∷ [])) (bodies_read b (bodies_of before ++ bodies) has) ∙ ap found (append_assoc (bodies_of before) bodies (body ∷ [])),
 )
 
 -- what a crash leaves where the last bytes are synced
-pub synced_now : (before : List ℕ) (bodies : List (List ℕ)) (file : List ℕ) (left : List ℕ → Type 0) → HasBehind before bodies file → Only file left → (c : List ℕ) → left c → HasAll before bodies c
-synced_now before bodies file left has only c is =
-    ([], ap reading (only c is) ∙ has ∙ ap (λ (xs : List (List ℕ)). found (bodies_of before ++ xs)) (sym (append-nil bodies)))
+pub synced_now : (before : List ℕ) (bodies : List (List ℕ)) (file : List ℕ) (left : List ℕ → Type 0) → HasBehind before bodies file → Only file left → (c : List ℕ) → left c → HasBehind before bodies c
+synced_now before bodies file left has only c is = ap reading (only c is) ∙ has
 
 -- ---- runs of a disk
 

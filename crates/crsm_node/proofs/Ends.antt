@@ -1,5 +1,5 @@
 -- The end of a node, from its turns before.
-use Rattle.std.proofs.Common.{◌≡◌, IsTrue, Bool, ℕ, ◌≤◌, List, [], ◌∷◌, ◌++◌, length, refl, sym, ◌∙◌, ap, subst, arith}
+use Rattle.std.proofs.Common.{◌≡◌, inl, IsTrue, Bool, ℕ, ◌≤◌, List, [], ◌∷◌, ◌++◌, length, refl, sym, ◌∙◌, ap, subst, arith}
 use Rattle.std.proofs.lemmas.List.{append-nil}
 use Rattle.std.specs.Prelude.{Option, Result, Ok, Err, ◌≢◌}
 use Rattle.std.specs.List.{AllByRecursion}
@@ -17,13 +17,14 @@ use Rattle.crsm_replica_detector.specs.Watching.{Watch}
 use Rattle.crsm_spec_process.specs.Turns.{replica_after}
 use Rattle.crsm_replica_io.specs.Outgoing.{packets_for}
 use Rattle.crsm_shell.specs.Flushing.{Adds, IsFull, IsLeft, SendsPackets}
-use Rattle.crsm_shell.specs.Shell.{group_body, sends_of}
+use Rattle.crsm_base.specs.Records.{FitsRec}
+use Rattle.crsm_shell.specs.Shell.{group_body, records_of, sends_of}
 use Rattle.crsm_node.specs.Devices.{Node}
-use Rattle.crsm_node.specs.Kept.{HasAll, HasLogOf, IsLeftOf, bodies_in_log, body_in_log}
+use Rattle.crsm_node.specs.Kept.{HasBehind, HasLogOf, IsLeftOf, bodies_in_log, body_in_log}
 use Rattle.crsm_node.specs.Sent.{AreAddressed, HaveFates}
-use Rattle.crsm_node.specs.Serving.{Carries, Keeps, MayGoOn, Serves, StopsAt, Takes, maybe_kept, turns_by_group, turns_text, with_lost}
+use Rattle.crsm_node.specs.Serving.{Carries, IsLeftAtEnd, Keeps, MayGoOn, Serves, StopsAt, Takes, maybe_kept, turns_by_group, turns_text, with_lost}
 use Rattle.crsm_node.specs.declared.errors.NodeError.{NodeError}
-use Rattle.crsm_node.specs.declared.errors.NodeError.TheVariants.{PortFault, DiskFault, LogFull, WriteFault, NoMemory}
+use Rattle.crsm_node.specs.declared.errors.NodeError.TheVariants.{PortFault, DiskFault, LogFull, WriteFault, Failed, NoMemory}
 use Rattle.crsm_node.proofs.Disks.{left_more, synced_by_flush, synced_now}
 use Rattle.crsm_node.proofs.Groups.{AreOpen, groups_more, IsShut, open_group, shut_groups}
 use Rattle.crsm_node.proofs.Fates.{addressed_more, fates_for, have_fates_more}
@@ -61,7 +62,7 @@ group_if (t ∷ ts) open_ some = open_group t ts open_
 
 module _ (r : Replica) (w : Watch) (most : ℕ) (groups : List Group) (ts : List (Turn × ℕ)) (start now : Node) (s : SoFar r w groups ts start now)
     (written : Puts start.sheet now.sheet (turns_text (kept_turns groups))) (few : length (kept_turns groups ++ ts) ≤ most) (are : AreGroups (with_lost (turns_by_group groups) ts)) where
-  synced : IsTrue start.disk.honest → (c : List ℕ) → now.disk.may_leave c → HasAll start.disk.seen (bodies_in_log r (turns_by_group groups)) c
+  synced : IsTrue start.disk.honest → (c : List ℕ) → now.disk.may_leave c → HasBehind start.disk.seen (bodies_in_log r (turns_by_group groups)) c
   synced honest = synced_now start.disk.seen (bodies_in_log r (turns_by_group groups)) now.disk.seen now.disk.may_leave (s.disk.has honest) (s.disk.durable honest)
 
   -- memory ran out
@@ -118,13 +119,24 @@ module _ (r : Replica) (w : Watch) (most : ℕ) (groups : List Group) (ts : List
     peers = s.peers;
   }
 
+-- where the bodies of all groups are synced
+pub all_synced : (before : List ℕ) (bodies : List (List ℕ)) (r : Replica) (lost : List (Turn × ℕ)) (result : Result (Unit {0}) NodeError) (c : List ℕ) → HasBehind before bodies c → IsLeftAtEnd before bodies r lost result c
+all_synced before bodies r lost (Ok x) c has = has
+all_synced before bodies r lost (Err PortFault) c has = has
+all_synced before bodies r lost (Err DiskFault) c has = inl has
+all_synced before bodies r lost (Err LogFull) c has = has
+all_synced before bodies r lost (Err WriteFault) c has = has
+all_synced before bodies r lost (Err Failed) c has = has
+all_synced before bodies r lost (Err NoMemory) c has = has
+
 -- the disk failed at them
 pub ends_at_disk : (r : Replica) (w : Watch) (most : ℕ) (groups : List Group) (ts : List (Turn × ℕ)) (start mid now : Node) → SoFar r w groups ts start mid → Puts start.sheet mid.sheet (turns_text (kept_turns groups)) →
     length (kept_turns groups ++ ts) ≤ most → AreGroups (with_lost (turns_by_group groups) ts) → ts ≢ [] →
     now.clock ≡ mid.clock → Carries start.peers r w (kept_turns groups ++ ts) groups start.port now.port → now.sheet ≡ mid.sheet → now.peers ≡ mid.peers → Goes mid.disk now.disk → Rose mid.disk.faults now.disk.faults →
     (IsTrue mid.disk.honest → LeavesOnly mid.disk now.disk (IsLeft (bodies_of mid.disk.seen) (group_body (outputs_from (replica_after r (kept_turns groups)) ts)))) →
-    (IsTrue mid.disk.honest → IsFull mid.disk.seen (group_body (outputs_from (replica_after r (kept_turns groups)) ts)) → ⊥) → Serves r w most start now (Err DiskFault)
-ends_at_disk r w most groups ts start mid now s written few are some clock carries sheet peers goes rose left fits =
+    (IsTrue mid.disk.honest → IsFull mid.disk.seen (group_body (outputs_from (replica_after r (kept_turns groups)) ts)) → ⊥) →
+    AllByRecursion FitsRec (records_of (outputs_from (replica_after r (kept_turns groups)) ts)) → Serves r w most start now (Err DiskFault)
+ends_at_disk r w most groups ts start mid now s written few are some clock carries sheet peers goes rose left fits spelt =
     let bodies : List (List ℕ) = bodies_in_log r (turns_by_group groups) in
     let body : List ℕ = group_body (outputs_from (replica_after r (kept_turns groups)) ts) in
     let trusts : IsTrue start.disk.honest → IsTrue mid.disk.honest = λ honest. subst IsTrue (sym s.disk.goes.honest) honest in
@@ -147,7 +159,7 @@ ends_at_disk r w most groups ts start mid now s written few are some clock carri
         bodies = s.disk.has honest;
         is = λ other. absurd (other refl);
         log = s.disk.log honest;
-        stops = fits (trusts honest);
+        stops = (fits (trusts honest), spelt);
         synced = λ c is.
             let flushed = left (trusts honest) in
             synced_by_flush start.disk.seen bodies body mid.disk.seen c (s.disk.has honest) (flushed.each c (now.disk.counts_now mid.disk.moment c flushed.later is));
@@ -176,7 +188,9 @@ module _ (r : Replica) (w : Watch) (most : ℕ) (groups : List Group) (start now
     is = λ _. refl;
     log = s.disk.log honest;
     stops = stops;
-    synced = synced_now start.disk.seen (bodies_in_log r (turns_by_group groups)) now.disk.seen now.disk.may_leave (s.disk.has honest) (s.disk.durable honest);
+    synced = λ c is.
+        all_synced start.disk.seen (bodies_in_log r (turns_by_group groups)) (replica_after r (kept_turns groups)) [] result c
+        (synced_now start.disk.seen (bodies_in_log r (turns_by_group groups)) now.disk.seen now.disk.may_leave (s.disk.has honest) (s.disk.durable honest) c is);
     any_moment = subst (λ (gs : List (List (Turn × ℕ))). LeavesOnly start.disk now.disk (IsLeftOf start.disk.seen (bodies_in_log r gs))) (sym maybe) (s.disk.any_moment honest);
   }
 

@@ -23,19 +23,20 @@ use Rattle.crsm_spec.specs.Log.{Log}
 use Rattle.crsm_spec.specs.Node.{Turn, outputs_from}
 use Rattle.crsm_spec.specs.Replica.{Replica}
 use Rattle.crsm_shell.specs.Booting.{IsLeftByBoot, boot_body}
-use Rattle.crsm_shell.specs.Shell.{HasLog, sends_of}
+use Rattle.crsm_shell.specs.Shell.{HasLog, group_body, sends_of}
 use Rattle.crsm_node.specs.Kept.{HasBehind, HasLogOf, IsLeftOf, PutInTurn, bodies_in_log}
 use Rattle.crsm_node.specs.Received.{GivesAll, Passes, datagrams_in}
 use Rattle.crsm_node.specs.Devices.{Node}
 use Rattle.crsm_node.specs.Order.{peers_in}
 use Rattle.crsm_node.specs.Running.{Devices, EndsLife, IsLeftAtStart, IsLeftInLife, KeepsLife, RunsLife, WritesLife, booted, end_of, opening_text, unlent_disk, unlent_port}
 use Rattle.crsm_node.specs.Sent.{AreAddressed, HaveFates, fates_of, handed_out, packets_gone, packets_missing, steps_by_group}
-use Rattle.crsm_node.specs.Serving.{Carries, Ends, Keeps, StopsAt, Takes, Writes, maybe_kept, turns_by_group, turns_text, with_lost}
+use Rattle.crsm_node.specs.Serving.{Carries, Ends, IsLeftAtEnd, Keeps, StopsAt, Takes, Writes, maybe_kept, turns_by_group, turns_text, with_lost}
 use Rattle.crsm_node.specs.declared.errors.NodeEnd.{NodeEnd}
 use Rattle.crsm_node.specs.declared.errors.NodeError.{NodeError}
 use Rattle.crsm_node.specs.declared.errors.NodeError.TheVariants as errors
 use Rattle.crsm_node.specs.declared.order.NodeOrder.{NodeOrder}
 use Rattle.crsm_node.proofs.Disks.{not_begun, runs_on, synced_now}
+use Rattle.crsm_node.proofs.Ends.{all_synced}
 use Rattle.crsm_node.proofs.Ports.{both_same, passes_none, raised_none}
 use Rattle.crsm_node.proofs.SoFar.{puts_then}
 use Rattle.crsm_node.proofs.Starts.{boot_mine, boot_of, start_run, unlent_goes, unlent_run}
@@ -120,6 +121,22 @@ module _ (order : NodeOrder) (life : Life) (m n o p : Meaning) (result : Result 
       subst (λ (k : ℕ). HasLog k order.n keeps.file q.log) (same.0 ∙ boot_mine order.me order.n life.found)
       (subst (λ (k : ℕ). HasLog q.me k keeps.file q.log) (same.1 ∙ boot_of order.me order.n life.found) keeps.log)
 
+  abbrev kept_bodies : List (List ℕ)
+  kept_bodies = bodies_in_log (booted order life.found) (turns_by_group life.groups)
+
+  abbrev end : Replica
+  end = replica_after (booted order life.found) (kept_turns life.groups)
+
+  at_end : (why : Result (Unit {0}) NodeError) (c : List ℕ) → IsLeftAtEnd o.seen kept_bodies end life.lost why c → IsLeftAtEnd m.seen (boot ∷ kept_bodies) end life.lost why c
+  at_end (Ok x) c h = behind kept_bodies c h
+  at_end (Err errors.PortFault) c h = behind kept_bodies c h
+  at_end (Err errors.DiskFault) c (inl h) = inl (behind kept_bodies c h)
+  at_end (Err errors.DiskFault) c (inr h) = inr (h.0, behind (kept_bodies ++ group_body (outputs_from end life.lost) ∷ []) c h.1)
+  at_end (Err errors.LogFull) c h = behind kept_bodies c h
+  at_end (Err errors.WriteFault) c h = behind kept_bodies c h
+  at_end (Err errors.Failed) c h = behind kept_bodies c h
+  at_end (Err errors.NoMemory) c h = behind kept_bodies c h
+
   pub life_keeps : KeepsLife order life (unlent_disk m) (unlent_disk p) result
   life_keeps = record {
     begun = o.seen;
@@ -130,7 +147,7 @@ module _ (order : NodeOrder) (life : Life) (m n o p : Meaning) (result : Result 
     is = keeps.is;
     log = logged;
     stops = keeps.stops;
-    synced = λ c is. let h = keeps.synced c is in (h.0, behind (bodies_in_log (booted order life.found) (turns_by_group life.groups) ++ h.0) c h.1);
+    synced = λ c is. at_end result c (keeps.synced c is);
     any_moment = unlent_run m p (IsLeftInLife order life (unlent_disk m) result)
         (runs_on m o p (IsLeftAtStart order m) (IsLeftOf o.seen ours) (IsLeftInLife order life (unlent_disk m) result) (start_run order m n o claimed first second) keeps.any_moment at_start in_turns);
   }
@@ -233,7 +250,7 @@ lived_still order log before after a b o result port clock stops maybe has only 
         is = λ _. refl;
         log = logged honest;
         stops = stops (replica_after r (kept_turns []));
-        synced = synced_now o.seen [] o.seen o.may_leave (has honest) (only honest);
+        synced = λ c is. all_synced o.seen [] (replica_after r (kept_turns [])) [] result c (synced_now o.seen [] o.seen o.may_leave (has honest) (only honest) c is);
         any_moment = subst (λ (gs : List (List (Turn × ℕ))). LeavesOnly o o (IsLeftOf o.seen (bodies_in_log r gs))) (sym maybe) (not_begun o o.seen (has honest) (only honest));
       };
     }

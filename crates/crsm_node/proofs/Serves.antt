@@ -22,7 +22,8 @@ use Rattle.crsm_replica_detector.specs.Detector.{DetectorStands}
 use Rattle.crsm_replica_detector.specs.declared.detector.Detector.{Detector}
 use Rattle.crsm_shell.specs.declared.shell.Shell.{Shell}
 use Rattle.crsm_shell.specs.Flushing.{IsFull, SendsNone, SendsPackets}
-use Rattle.crsm_shell.specs.Shell.{ShellStands, group_body, sends_of}
+use Rattle.crsm_base.specs.Records.{FitsRec}
+use Rattle.crsm_shell.specs.Shell.{ShellStands, group_body, records_of, sends_of}
 use Rattle.crsm_shell.specs.Words.{disk_of, has_failed, peers_of}
 use Rattle.crsm_node.specs.Devices.{Node, node_of}
 use Rattle.crsm_node.specs.Kept.{HasBehind, HasLogOf, IsLeftOf, PutInTurn, bodies_in_log}
@@ -331,6 +332,11 @@ module _ {C P D O : Type 0} {g : _} (disk : D → DiskMeaning) (port : P → Por
         peers = same_peers ∙ was.peers;
       }
 
+  -- the records that are pending have an encoding
+  pending_spelt : AllByRecursion FitsRec (records_of (outputs_from k ts))
+  unfolding ShellStands
+  pending_spelt = now.stands.spelt
+
   -- the group is not kept, or its lines are not written
   pub keep_ends : (most : ℕ) → ts ≢ [] → AreGroups (with_lost (turns_by_group groups) ts) → length every ≤ most → (result : Result (Unit {0}) NodeError) → (result ≡ Ok tt → ⊥) →
       KeepsGroup disk s s' (port p) (port p') (written o) (written o') (faults o) (faults o') text (replica_after r every) (outputs_from k ts) result → Serves r w most start (node_of disk port clock written faults s' d p' c o') result
@@ -348,7 +354,7 @@ module _ {C P D O : Type 0} {g : _} (disk : D → DiskMeaning) (port : P → Por
       (prefix_more start.sheet (written o) (written o') groups g' now.wrote (subst (λ (x : List ℕ). PutsPrefix (written o) (written o') x) now.text_is h.1.prefix)) (omega (arith, was, rose)) on.2
   keep_ends most some are few (Err errors.DiskFault) other h =
       ends_at_disk r w most groups ts start (node_of disk port clock written faults s d p c o) (node_of disk port clock written faults s' d p' c o') now.so_far now.wrote few are some refl
-      (carries_idle start.peers r w every groups start.port (port p) (port p') now.so_far.carries (idle_unsent (port p) (port p') h.0.unsent)) h.0.unwritten same_peers goes h.1.fault h.1.left h.1.fits
+      (carries_idle start.peers r w every groups start.port (port p) (port p') now.so_far.carries (idle_unsent (port p) (port p') h.0.unsent)) h.0.unwritten same_peers goes h.1.fault h.1.left h.1.fits pending_spelt
   keep_ends most some are few (Err errors.LogFull) other h =
       ends_full r w most groups ts start (node_of disk port clock written faults s' d p' c o') (untouched h.0.unsent h.1.same) (subst (λ (x : Option (List ℕ)). Puts start.sheet x (turns_text before)) (sym h.0.unwritten) now.wrote) few are
       (λ honest. subst (λ (f : List ℕ). IsFull f (group_body (outputs_from k ts))) (sym h.1.same.seen) (h.1.full (subst IsTrue (sym now.so_far.disk.goes.honest) honest)))

@@ -1,5 +1,5 @@
 -- The effect of groups of turns on a disk.
-use Rattle.std.specs.Prelude.{◌≡◌, ℕ, List, [], ◌∷◌, ◌++◌}
+use Rattle.std.specs.Prelude.{◌≡◌, ◌⊎◌, ℕ, ◌<◌, List, [], ◌∷◌, ◌++◌, length}
 use Rattle.std.specs.List.{flat_map}
 use Rattle.crsm_spec.specs.Draft.{Draft}
 use Rattle.crsm_spec.specs.Node.{Turn}
@@ -26,9 +26,9 @@ bodies_in_log r groups = flat_map body_in_log (steps_by_group r groups)
 abbrev pub HasBehind : List ℕ → List (List ℕ) → List ℕ → Type 0
 HasBehind before bodies file = reading file ≡ found (bodies_of before ++ bodies)
 
--- the file has these bodies behind those of the one before, and maybe more
-abbrev pub HasAll : List ℕ → List (List ℕ) → List ℕ → Type 0
-HasAll before bodies file = (more : List (List ℕ)) × HasBehind before (bodies ++ more) file
+-- the file has these bodies behind those of the one before, or one more behind them
+abbrev pub HasBehindOrMore : List ℕ → List (List ℕ) → List ℕ → List ℕ → Type 0
+HasBehindOrMore before bodies body file = HasBehind before bodies file ⊎ ((0 < length body) × HasBehind before (bodies ++ body ∷ []) file)
 
 -- the file has the log of this replica
 abbrev pub HasLogOf : Replica → List ℕ → Type 0

@@ -25,10 +25,10 @@ use Rattle.crsm_shell.specs.Shell.{HasLog}
 use Rattle.crsm_shell.specs.declared.shell.Shell.{Shell}
 use Rattle.crsm_node.specs.Devices.{node_of}
 use Rattle.crsm_node.specs.Errors.{serve_end}
-use Rattle.crsm_node.specs.Kept.{HasAll, HasBehind, IsLeftOf, PutInTurn, bodies_in_log}
+use Rattle.crsm_node.specs.Kept.{HasBehind, IsLeftOf, PutInTurn, bodies_in_log}
 use Rattle.crsm_node.specs.Order.{peers_in}
 use Rattle.crsm_node.specs.Sent.{AreAddressed, HaveFates}
-use Rattle.crsm_node.specs.Serving.{Carries, Serves, StopsAt, Takes, maybe_kept, turns_by_group, with_lost}
+use Rattle.crsm_node.specs.Serving.{Carries, IsLeftAtEnd, Serves, StopsAt, Takes, maybe_kept, turns_by_group, with_lost}
 use Rattle.crsm_node.specs.declared.errors.NodeEnd.{NodeEnd}
 use Rattle.crsm_node.specs.declared.errors.NodeEnd.TheVariants as ends
 use Rattle.crsm_node.specs.declared.errors.NodeError.{NodeError}
@@ -139,7 +139,8 @@ pub record KeepsLife (order : NodeOrder) (life : Life) (old new : DiskMeaning) (
   pub is : (result ≡ Err errors.DiskFault → ⊥) → new.seen ≡ file
   pub log : HasLog order.me order.n file (replica_after (booted order life.found) (kept_turns life.groups)).log
   pub stops : StopsAt (replica_after (booted order life.found) (kept_turns life.groups)) life.lost file result
-  pub synced : (c : List ℕ) → new.may_leave c → HasAll old.seen (boot_body order.me order.n life.found ∷ bodies_in_log (booted order life.found) (turns_by_group life.groups)) c
+  pub synced : (c : List ℕ) → new.may_leave c → IsLeftAtEnd old.seen (boot_body order.me order.n life.found ∷ bodies_in_log (booted order life.found) (turns_by_group life.groups))
+      (replica_after (booted order life.found) (kept_turns life.groups)) life.lost result c
   pub any_moment : LeavesOnly old new (IsLeftInLife order life old result)
 
 -- the sheet, or a prefix of it where it failed, or memory ran out before the first turn
@@ -198,7 +199,9 @@ over_cluster cluster framing devices = record devices { port = record (clustered
 
 -- memory ran out before the node began
 abbrev pub NotBegun : Devices → Devices → NodeEnd → Type 0
-NotBegun old new end = (end ≡ ends.NoMemory) × Goes old.disk new.disk × (new.disk.seen ≡ old.disk.seen) × (new.clock ≡ old.clock) × (new.sheet ≡ old.sheet)
+NotBegun old new end =
+    (end ≡ ends.NoMemory) × Goes old.disk new.disk × (new.disk.seen ≡ old.disk.seen) × ((c : List ℕ) → new.disk.may_leave c → old.disk.may_leave c) × (new.clock ≡ old.clock)
+    × (new.sheet ≡ old.sheet)
 
 -- The traffic of the cluster's port went over the port below with its framing, and its losses are those of the port below.
 abbrev pub RunsNumbered : NodeOrder → Devices → Devices → NodeEnd → Type 0

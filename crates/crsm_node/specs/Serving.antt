@@ -1,7 +1,8 @@
 -- The effects of a node over a number of turns.
-use Rattle.std.specs.Prelude.{◌≡◌, ℕ, ◌≤◌, List, [], ◌∷◌, ◌++◌, length, map, IsTrue, Option, Result, Ok, Err}
+use Rattle.std.specs.Prelude.{◌≡◌, ◌⊎◌, ℕ, ◌<◌, ◌≤◌, List, [], ◌∷◌, ◌++◌, length, map, IsTrue, Option, Result, Ok, Err}
 use Rattle.std.specs.List.{AllByRecursion}
 use Rattle.crsm_port_faults.specs.Counts.{Rose}
+use Rattle.crsm_base.specs.Records.{FitsRec}
 use Rattle.crsm_spec.specs.Node.{Turn, outputs_from}
 use Rattle.crsm_spec.specs.Replica.{Replica}
 use Rattle.crsm_spec_process.specs.Groups.{AreGroups}
@@ -17,9 +18,9 @@ use Rattle.crsm_replica_detector.specs.Watching.{Watch}
 use Rattle.crsm_spec_process.specs.Turns.{CanBeTaken, replica_after}
 use Rattle.crsm_replica_detector.specs.Wished.{AreWished, empty_receives, watch_after}
 use Rattle.crsm_shell.specs.Flushing.{IsFull}
-use Rattle.crsm_shell.specs.Shell.{group_body}
+use Rattle.crsm_shell.specs.Shell.{group_body, records_of}
 use Rattle.crsm_node.specs.Devices.{Node}
-use Rattle.crsm_node.specs.Kept.{HasAll, HasBehind, HasLogOf, IsLeftOf, PutInTurn, bodies_in_log}
+use Rattle.crsm_node.specs.Kept.{HasBehind, HasBehindOrMore, HasLogOf, IsLeftOf, PutInTurn, bodies_in_log}
 use Rattle.crsm_node.specs.Received.{BothTell, GivesAll, Passes, datagrams_in, readings_of}
 use Rattle.crsm_node.specs.Sent.{AreAddressed, HaveFates, packets_gone, packets_missing}
 use Rattle.crsm_node.specs.declared.errors.NodeError.{NodeError}
@@ -58,9 +59,10 @@ pub record Carries (peers : List ℕ) (r : Replica) (w : Watch) (turns : List (T
   pub framing : new.framing ≡ old.framing
   pub borrowed_as : new.borrowed_as ≡ old.borrowed_as
 
--- The last group, which was not kept, and why, where this is the file that the groups before it left.
+-- The last group, which was not kept, and why, where this is the file that the groups before it left. Where the disk
+-- failed it may be there, and its records have an encoding.
 abbrev pub StopsAt : Replica → List (Turn × ℕ) → List ℕ → Result (Unit {0}) NodeError → Type 0
-StopsAt r lost file (Err DiskFault) = IsFull file (group_body (outputs_from r lost)) → ⊥
+StopsAt r lost file (Err DiskFault) = (IsFull file (group_body (outputs_from r lost)) → ⊥) × AllByRecursion FitsRec (records_of (outputs_from r lost))
 StopsAt r lost file (Err LogFull) = IsFull file (group_body (outputs_from r lost))
 StopsAt r lost file (Err _) = Unit {0}
 StopsAt r lost file (Ok _) = Unit {0}
@@ -70,6 +72,13 @@ abbrev pub maybe_kept : List Group → List (Turn × ℕ) → Result (Unit {0}) 
 maybe_kept groups lost (Err DiskFault) = with_lost (turns_by_group groups) lost
 maybe_kept groups lost (Err _) = turns_by_group groups
 maybe_kept groups lost (Ok _) = turns_by_group groups
+
+-- What a crash at the end leaves: these bodies behind those of before and, where the disk failed, maybe that of the last
+-- turns behind them.
+abbrev pub IsLeftAtEnd : List ℕ → List (List ℕ) → Replica → List (Turn × ℕ) → Result (Unit {0}) NodeError → List ℕ → Type 0
+IsLeftAtEnd before bodies r lost (Err DiskFault) file = HasBehindOrMore before bodies (group_body (outputs_from r lost)) file
+IsLeftAtEnd before bodies r lost (Err _) file = HasBehind before bodies file
+IsLeftAtEnd before bodies r lost (Ok _) file = HasBehind before bodies file
 
 -- Where the disk is honest it has one body for each group that has a record, behind those that it had, each put where
 -- the log was not full; and a crash at any moment leaves a prefix of these. These groups, whose output was sent, are
@@ -81,7 +90,7 @@ pub record Keeps (r : Replica) (groups : List Group) (lost : List (Turn × ℕ))
   pub is : (result ≡ Err DiskFault → ⊥) → new.seen ≡ file
   pub log : HasLogOf (replica_after r (kept_turns groups)) file
   pub stops : StopsAt (replica_after r (kept_turns groups)) lost file result
-  pub synced : (c : List ℕ) → new.may_leave c → HasAll old.seen (bodies_in_log r (turns_by_group groups)) c
+  pub synced : (c : List ℕ) → new.may_leave c → IsLeftAtEnd old.seen (bodies_in_log r (turns_by_group groups)) (replica_after r (kept_turns groups)) lost result c
   pub any_moment : LeavesOnly old new (IsLeftOf old.seen (bodies_in_log r (maybe_kept groups lost result)))
 
 -- the lines of the turns that were kept, or a prefix of them where the sheet failed
