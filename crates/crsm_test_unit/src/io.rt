@@ -1,13 +1,10 @@
-//! Runs over memory, and over a reader and a writer of the standard library that fail.
+//! A reader and a writer of the standard library that fail.
 
 ghost use Rattle.std.specs.Prelude.{◌≤◌, IfOk};
 
 use crsm_base::Failed;
-use crsm_io::{
-    MemSink, MemSource, NeverSink, NeverSource, Sink, Source, StdSink, StdSource, put_all,
-};
+use crsm_io::{Sink, Source, StdSink, StdSource};
 use std::io::{self, ErrorKind, Read, Write};
-use std::test::Fail;
 
 /// What a call answers.
 #[derive(Clone, Copy)]
@@ -53,55 +50,33 @@ impl Write for Scripted {
     }
 }
 
-#[test]
-fn reads_from_memory(rt: HostRuntime) -> Result<(), Fail> {
-    let mut source = MemSource::new(rt.alloc(), b"abc", &[2])?;
-    let mut buf = [0; 2];
-    assert_eq!(rt; source.read(&mut buf), Ok(2));
-    assert_eq!(rt; buf, *b"ab");
-    assert_eq!(rt; source.read(&mut buf), Err(Failed));
-    assert_eq!(rt; source.read(&mut buf), Ok(1));
-    assert_eq!(rt; buf, *b"cb");
-    assert_eq!(rt; source.read(&mut buf), Ok(0));
-    let mut never = NeverSource::new(rt.alloc(), b"x")?;
-    assert_eq!(rt; never.read(&mut buf), Ok(1));
-    assert_eq!(rt; never.read(&mut buf), Ok(0));
-    Ok(())
+/// A device that answers two calls so, and then nothing more.
+fn answering(first: Turn, second: Turn) -> Scripted {
+    Scripted {
+        turns: [first, second],
+        at: 0,
+    }
 }
 
 #[test]
-fn writes_to_memory(rt: HostRuntime) -> Result<(), Fail> {
-    let mut sink = MemSink::new(rt.alloc(), &[2])?;
-    assert_eq!(rt; put_all(&mut sink, b""), Ok(()));
-    sink.reserve(4)?;
-    assert_eq!(rt; put_all(&mut sink, b"abc"), Ok(()));
-    assert_eq!(rt; put_all(&mut sink, b"d"), Err(Failed));
-    assert_eq!(rt; put_all(&mut sink, b"ef"), Err(Failed));
-    assert_eq!(rt; put_all(&mut sink, b"g"), Ok(()));
-    assert_eq!(rt; sink.as_slice(), b"abcg".as_slice());
-    let mut never = NeverSink::new();
-    assert_eq!(rt; put_all(&mut never, b"abc"), Ok(()));
-    assert_eq!(rt; never.count(), 3);
-    Ok(())
-}
-
-#[test]
-fn counts_errors_of_the_library(rt: HostRuntime) -> Result<(), Fail> {
+fn failed_reads_are_counted(rt: HostRuntime) {
     let mut buf = [0; 4];
-    let mut source = StdSource::new(Scripted {
-        turns: [Turn::Fails, Turn::Moves(3)],
-        at: 0,
-    });
-    assert_eq!(rt; source.read(&mut buf), Err(Failed));
-    assert_eq!(rt; source.read(&mut buf), Ok(3));
-    assert_eq!(rt; source.read(&mut buf), Ok(0));
-    let mut sink = StdSink::new(Scripted {
-        turns: [Turn::Moves(3), Turn::Fails],
-        at: 0,
-    });
-    assert_eq!(rt; sink.write(b"abcd"), Ok(3));
-    assert_eq!(rt; sink.write(b"d"), Err(Failed));
-    assert_eq!(rt; sink.write(b"d"), Err(Failed));
-    assert_eq!(rt; sink.write(b""), Ok(0));
-    Ok(())
+    let mut source = StdSource::new(answering(Turn::Fails, Turn::Moves(3)));
+    for want in [Err(Failed), Ok(3), Ok(0)] {
+        assert_eq!(rt; source.read(&mut buf), want);
+    }
+}
+
+#[test]
+fn failed_writes_are_counted(rt: HostRuntime) {
+    let mut sink = StdSink::new(answering(Turn::Moves(3), Turn::Fails));
+    let rows = [
+        (b"abcd".as_slice(), Ok(3)),
+        (b"d".as_slice(), Err(Failed)),
+        (b"d".as_slice(), Err(Failed)),
+        (b"".as_slice(), Ok(0)),
+    ];
+    for (bytes, want) in rows {
+        assert_eq!(rt; sink.write(bytes), want);
+    }
 }
