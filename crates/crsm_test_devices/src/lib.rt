@@ -1,5 +1,5 @@
-//! Tests of disks, logs and ports over the system's own, of the shells of a world, and of each call once with ample
-//! memory.
+//! Tests of disks, logs and ports over the system's own files and sockets. What those over memory do is proved, and
+//! shown by the tables of `crsm_test_node`.
 #![tactic(auto)]
 
 #[cfg(test)]
@@ -8,7 +8,3 @@ mod disk;
 mod log;
 #[cfg(test)]
 mod port;
-#[cfg(test)]
-mod shells;
-#[cfg(test)]
-mod turns;
