@@ -1,6 +1,6 @@
 -- The runs of one node, one after another: the processes that they were lead to each file that is left.
 use Rattle.std.proofs.Common.{◌≡◌, ℕ, ◌+◌, ◌*◌, ◌<◌, ◌≤◌, List, [], ◌∷◌, ◌++◌, length, true, refl, sym, ◌∙◌, ap, subst, inl, inr, arith, append_assoc, length-append}
-use Rattle.std.specs.Prelude.{◌⊎◌, ◌≢◌, ◌^◌, IsTrue}
+use Rattle.std.specs.Prelude.{◌⊎◌, ◌^◌, IsTrue}
 use Rattle.std.specs.List.{AllByRecursion}
 use Rattle.std.proofs.lemmas.Bool.{cases_eq}
 use Rattle.std.proofs.lemmas.List.{append-nil}
@@ -18,7 +18,7 @@ use Rattle.crsm_law_lives.specs.Premises.{IsProcess}
 use Rattle.crsm_law_lives.specs.Sending.{HasFates}
 use Rattle.crsm_law_processes.specs.Files.{FindBodies, LeavesBodies, size_of}
 use Rattle.crsm_law_processes.proofs.Files.{kept_size}
-use Rattle.crsm_node.specs.Running.{Devices, IsLeftAtStart, NotBegun, NotBooted, RunsLife, over_cluster}
+use Rattle.crsm_node.specs.Running.{Devices, IsLeftAtStart, NotBooted, RunsLife, over_cluster}
 use Rattle.crsm_node.specs.declared.errors.NodeEnd.{NodeEnd}
 use Rattle.crsm_node.specs.declared.order.NodeOrder.{NodeOrder}
 use Rattle.crsm_law_restarts.specs.Runs.{AreRunsOf, FollowEachOther, HasNoBody, IsRunOf, Run}

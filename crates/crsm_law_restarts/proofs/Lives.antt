@@ -2,12 +2,11 @@
 use Rattle.std.proofs.Common.{◌≡◌, ℕ, ◌+◌, ◌<◌, ◌≤◌, List, [], ◌∷◌, ◌++◌, length, true, refl, sym, ◌∙◌, ap, subst, inl, inr, arith, append_assoc}
 use Rattle.std.specs.Prelude.{◌⊎◌, ◌^◌, IsTrue, Result, Ok, Err}
 use Rattle.std.specs.List.{AllByRecursion}
-use Rattle.crsm_base.specs.Records.{FitsRec, body_bytes}
-use Rattle.crsm_spec.specs.Log.{Log}
+use Rattle.crsm_base.specs.Records.{FitsRec}
 use Rattle.crsm_spec.specs.Replica.{Replica}
 use Rattle.crsm_spec.specs.Step.{boot}
 use Rattle.crsm_spec.specs.Node.{Turn, outputs_from, turn}
-use Rattle.crsm_spec_process.specs.Lives.{Group, Life, kept_turns}
+use Rattle.crsm_spec_process.specs.Lives.{Life, kept_turns}
 use Rattle.crsm_spec_process.specs.Turns.{replica_after}
 use Rattle.crsm_fact_step.proofs.Batches.{turn_grown}
 use Rattle.crsm_ledger.specs.Recovered.{AreKept}
@@ -21,7 +20,7 @@ use Rattle.crsm_law_lives.specs.Sending.{HasFates}
 use Rattle.crsm_law_lives.specs.Sending as laws
 use Rattle.crsm_law_processes.specs.Files.{LeavesBodies, size_of, with_lost_kept}
 use Rattle.crsm_law_processes.proofs.Files.{all_turns, kept_after_all}
-use Rattle.crsm_node.specs.Kept.{HasBehind, HasBehindOrMore, bodies_in_log}
+use Rattle.crsm_node.specs.Kept.{HasBehind, bodies_in_log}
 use Rattle.crsm_node.specs.Running.{Devices, KeepsLife, RunsLife, booted}
 use Rattle.crsm_node.specs.Serving.{IsLeftAtEnd, StopsAt, turns_by_group}
 use Rattle.crsm_node.specs.declared.errors.NodeEnd.{NodeEnd}

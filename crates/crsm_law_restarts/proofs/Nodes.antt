@@ -1,5 +1,5 @@
 -- The runs of all nodes.
-use Rattle.std.proofs.Common.{◌≡◌, ℕ, zero, suc, ◌+◌, ◌<◌, ◌≤◌, List, [], ◌∷◌, ◌++◌, refl, sym, ◌∙◌, ap, subst, inl, inr, Bool, true, false, cond, arith}
+use Rattle.std.proofs.Common.{◌≡◌, ℕ, zero, suc, ◌<◌, ◌≤◌, List, [], ◌∷◌, ◌++◌, refl, sym, ◌∙◌, ap, subst, inl, inr, Bool, cond, arith}
 use Rattle.std.specs.Prelude.{◌⊎◌, ◌==◌, filter}
 use Rattle.std.specs.List.{AllByRecursion}
 use Rattle.std.proofs.lemmas.Bool.{cases_eq, cases_lt, eq-eqb, ne_eqb}
@@ -13,9 +13,9 @@ use Rattle.crsm_law_lives.specs.Sending.{HasFates}
 use Rattle.crsm_law_processes.specs.Files.{FilesKeep, FindBodies, RanOnFiles}
 use Rattle.crsm_law_processes.specs.Laws.{ProcessesAreHistories, StepsOfProcessesAreRight}
 use Rattle.crsm_node.specs.Running.{Devices}
-use Rattle.crsm_law_restarts.specs.Runs.{AreRunsOf, Run}
+use Rattle.crsm_law_restarts.specs.Runs.{Run}
 use Rattle.crsm_law_restarts.specs.Processes.{AreAlike, Were}
-use Rattle.crsm_law_restarts.specs.Laws.{IsRightHistory, MakeHistories, RunsMakeHistories}
+use Rattle.crsm_law_restarts.specs.Laws.{MakeHistories, RunsMakeHistories}
 use Rattle.crsm_law_restarts.proofs.Alike.{find_same, own_same, processes_same}
 use Rattle.crsm_law_restarts.proofs.Chains.{HasLives, have_lives}
 

@@ -1,5 +1,5 @@
 -- What a node's port sent, and what a process sends in a history.
-use Rattle.std.proofs.Common.{◌≡◌, ℕ, suc, ◌+◌, Bool, true, false, List, [], ◌∷◌, ◌++◌, length, map, refl, sym, ◌∙◌, ap, inl, inr, arith, length-append}
+use Rattle.std.proofs.Common.{◌≡◌, ℕ, Bool, true, false, List, [], ◌∷◌, ◌++◌, length, map, refl, sym, ◌∙◌, ap, inl, inr, arith}
 use Rattle.std.specs.List.{flat_map}
 use Rattle.std.proofs.lemmas.Grind.{flat_map-append}
 use Rattle.std.proofs.lemmas.List.{length-map, map-append}
@@ -9,7 +9,7 @@ use Rattle.crsm_spec.specs.Draft.{Draft, Reply}
 use Rattle.crsm_spec.specs.Replica.{Replica}
 use Rattle.crsm_spec.specs.Step.{boot}
 use Rattle.crsm_spec.specs.Node.{Turn, outputs_from, turn}
-use Rattle.crsm_spec_process.specs.Lives.{Group, Life, kept_turns}
+use Rattle.crsm_spec_process.specs.Lives.{Group, kept_turns}
 use Rattle.crsm_spec_process.specs.Turns.{gone, replica_after}
 use Rattle.crsm_shell.specs.Shell.{sends_in, sends_of}
 use Rattle.crsm_replica_io.specs.Outgoing.{packets_for}
