@@ -16,11 +16,12 @@ from timing import program
 
 ROUNDS = 2_000
 RECEIVES = 2_000
+ROOM = 8_192
 
 
 def start(work, receives):
     """Starts the program on this work: the process, and the number of its socket."""
-    command = [program("crsm_test_bench_port"), work, str(receives)]
+    command = [program("crsm_test_bench"), work, str(ROOM), str(receives)]
     process = subprocess.Popen(command, stdout=subprocess.PIPE, text=True)
     return process, int(process.stdout.readline())
 

@@ -3,22 +3,25 @@
 use crsm_base::NoMemory;
 use crsm_ledger::LedgerError;
 use crsm_wire::WireError;
+use std::alloc::AllocFailed;
 use std::io;
 use thiserror::Error;
 
 /// Why the program ends early.
 #[derive(Debug, Drop, Error)]
 pub enum Fault {
-    #[error("the arguments cannot be read, or the output not written: {0}")]
+    #[error("the arguments cannot be read, the socket not bound, or the output not written: {0}")]
     Io(io::Error),
     #[error("memory ran out")]
     NoMemory,
     #[error("a page of so many entries has no spelling")]
     NoPage,
-    #[error("a cluster has 1 to 3 replicas here")]
-    NoCluster,
-    #[error("the log is refused: {0}")]
-    Log(LedgerError),
+    #[error("the log is refused")]
+    BadLog,
+    #[error("the socket failed")]
+    Port,
+    #[error("the socket has no address of IPv4")]
+    NoAddress,
 }
 
 impl From<io::Error> for Fault {
@@ -33,9 +36,18 @@ impl From<NoMemory> for Fault {
     }
 }
 
+impl<T: Drop> From<AllocFailed<T>> for Fault {
+    fn from(_: AllocFailed<T>) -> Fault {
+        Fault::NoMemory
+    }
+}
+
 impl From<LedgerError> for Fault {
     fn from(error: LedgerError) -> Fault {
-        Fault::Log(error)
+        match error {
+            LedgerError::NoMemory => Fault::NoMemory,
+            _ => Fault::BadLog,
+        }
     }
 }
 

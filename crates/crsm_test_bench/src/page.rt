@@ -24,30 +24,39 @@ fn entries_of(alloc: Global, bytes: &Bytes) -> Result<Entries, Fault> {
     }
 }
 
+/// How many bytes of a page are read, where it has so many entries.
+fn bytes_read(alloc: Global, bytes: &Bytes, size: u32) -> Result<u64, Fault> {
+    let entries = entries_of(alloc, bytes)?;
+    if entries.as_slice().len() == size as usize {
+        Ok(bytes.as_slice().len() as u64)
+    } else {
+        Ok(0)
+    }
+}
+
 /// Reads a page of so many entries again and again, and counts the bytes.
 pub fn read(alloc: Global, size: u32, rounds: u32) -> Result<u64, Fault> {
     let bytes = bytes_of(alloc, size)?;
     let mut count = 0u64;
     for _ in 0..rounds {
-        let entries = entries_of(alloc, &bytes)?;
-        if entries.as_slice().len() == size as usize {
-            count = count.wrapping_add(bytes.as_slice().len() as u64);
-        }
+        count = count.wrapping_add(bytes_read(alloc, &bytes, size)?);
     }
     Ok(count)
 }
 
+/// How many bytes are written for entries.
+fn bytes_written(alloc: Global, entries: &Entries) -> Result<u64, Fault> {
+    let mut out = Bytes::new(alloc);
+    write_entries(alloc, entries, &mut out)?;
+    Ok(out.as_slice().len() as u64)
+}
+
 /// Writes a page of so many entries again and again, and counts the bytes.
 pub fn write(alloc: Global, size: u32, rounds: u32) -> Result<u64, Fault> {
-    let bytes = bytes_of(alloc, size)?;
-    let Some((entries, _)) = read_entries(alloc, bytes.as_slice())? else {
-        return Err(Fault::NoPage);
-    };
+    let entries = entries_of(alloc, &bytes_of(alloc, size)?)?;
     let mut count = 0u64;
     for _ in 0..rounds {
-        let mut out = Bytes::new(alloc);
-        write_entries(alloc, &entries, &mut out)?;
-        count = count.wrapping_add(out.as_slice().len() as u64);
+        count = count.wrapping_add(bytes_written(alloc, &entries)?);
     }
     Ok(count)
 }

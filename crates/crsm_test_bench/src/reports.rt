@@ -1,5 +1,7 @@
 //! A collection: the reports of 15 replicas, taken page by page until a majority is whole.
 
+ghost use Rattle.std.specs.Prelude.{◌<◌};
+
 use crate::fault::Fault;
 use crate::spell;
 use crsm_base::{Bodies, Bytes, Members, MembersError, NoMemory};
@@ -68,20 +70,34 @@ fn messages(alloc: Global, size: u32) -> Result<Bodies, NoMemory> {
     Ok(all)
 }
 
+fn begun(alloc: Global) -> Result<Box<Collect>, Fault> {
+    let spec = members(alloc)?;
+    let collect = Collect::start(alloc, 0, 0, spec, None, members(alloc)?);
+    Ok(Box::new(alloc, collect)?)
+}
+
+/// Takes a message of this replica, and returns how many entries the tail has if a majority is whole.
+fn take(alloc: Global, collect: &mut Collect, from: u32, bytes: &[u8]) -> Result<Option<u64>, Fault>
+    requires { from < 15 }
+{
+    let control = read_control(alloc, bytes)?;
+    match collect.take(from, control)? {
+        PageOutcome::Complete(decision) => Ok(Some(decision.tail.as_slice().len() as u64)),
+        PageOutcome::TooMany { count, .. } => Ok(Some(count)),
+        _ => Ok(None),
+    }
+}
+
 /// Takes messages until a majority is whole, and counts the entries of the tail.
 fn collected(alloc: Global, messages: &Bodies) -> Result<u64, Fault> {
-    let mut collect = Collect::start(alloc, 0, 0, members(alloc)?, None, members(alloc)?);
+    let mut collect = begun(alloc)?;
     let mut turn = 0u32;
     for index in 0..messages.len() {
-        let Some(bytes) = messages.get(index) else {
-            break;
-        };
-        let control = read_control(alloc, bytes)?;
-        match collect.take(turn % REPLICAS, control)? {
-            PageOutcome::Complete(decision) => return Ok(decision.tail.as_slice().len() as u64),
-            PageOutcome::TooMany { count, .. } => return Ok(count),
-            _ => turn = turn.wrapping_add(1),
+        let bytes = messages.get(index).unwrap_or(&[]);
+        if let Some(count) = take(alloc, &mut collect, turn % REPLICAS, bytes)? {
+            return Ok(count);
         }
+        turn = turn.wrapping_add(1);
     }
     Ok(0)
 }

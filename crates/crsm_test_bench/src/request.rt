@@ -1,16 +1,10 @@
 //! What the program is asked to do.
 
-/// In which order the keys and clients of a store are visited.
-#[derive(Clone, Copy, Debug, PartialEq, Eq)]
-pub enum Visits {
-    /// One after another.
-    InOrder,
-    /// Far from one another.
-    Scattered,
-}
+use crate::port::Wait;
+use crate::rows::Visits;
 
-/// A kind of work.
-#[derive(Clone, Copy, Debug, PartialEq, Eq)]
+/// A kind of work on values in memory.
+#[derive(Clone, Copy)]
 pub enum Work {
     /// Writes a page of entries as bytes.
     Write,
@@ -22,13 +16,13 @@ pub enum Work {
     Ledger,
     /// Collects the reports of 15 replicas.
     Collect,
-    /// Hands requests to replicas in memory.
-    Core,
+    /// Receives on a socket.
+    Port(Wait),
 }
 
-/// Work on a value of some size (entries of a page or of a report, keys and clients of a store,
-/// commands of a log, replicas), done so many times.
-#[derive(Clone, Copy, Debug, PartialEq, Eq)]
+/// Work on a value of some size (entries of a page or of a report, keys and clients of a store, commands of a log, bytes
+/// that a receive has room for), done so many times.
+#[derive(Clone, Copy)]
 pub struct Request {
     pub work: Work,
     pub size: u32,
@@ -44,7 +38,9 @@ impl Work {
             "store_in_order" => Some(Work::Store(Visits::InOrder)),
             "ledger" => Some(Work::Ledger),
             "collect" => Some(Work::Collect),
-            "core" => Some(Work::Core),
+            "empty" => Some(Work::Port(Wait::Empty)),
+            "hurried" => Some(Work::Port(Wait::Hurried)),
+            "echo" => Some(Work::Port(Wait::Echo)),
             _ => None,
         }
     }
