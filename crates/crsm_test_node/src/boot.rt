@@ -32,15 +32,19 @@ pub fn boot(alloc: Global, disk: MemDisk) -> Result<Booted<MemDisk>, (BootError,
     Shell::boot(alloc, 0, 1, &[70], disk)
 }
 
+fn found_in(booted: Booted<MemDisk>) -> Found {
+    Found {
+        boots: booted.shell.state().boot(),
+        lines: booted.lines.as_slice().len(),
+        size: booted.size,
+        bodies: booted.bodies,
+    }
+}
+
 /// Returns what a boot finds on this disk, or why it refuses.
 pub fn found_on(alloc: Global, disk: MemDisk) -> Result<Found, BootError> {
     match boot(alloc, disk) {
-        Ok(booted) => Ok(Found {
-            boots: booted.shell.state().boot(),
-            lines: booted.lines.as_slice().len(),
-            size: booted.size,
-            bodies: booted.bodies,
-        }),
+        Ok(booted) => Ok(found_in(booted)),
         Err((why, _)) => Err(why),
     }
 }

@@ -7,16 +7,15 @@
 //! are the calls of the port and of the output that fail (`-`: none); each of DATAGRAMS waits at the port, as
 //! `FROM:HEX`.
 
-ghost use Rattle.std.specs.Prelude.{IfOk};
+ghost use Rattle.std.specs.Prelude.{◌<◌, IfOk};
 ghost use Rattle.crsm_base.specs.Spelling.{FitsCommand};
 
 use crate::fault::Fault;
-use crate::lock::tell_lock;
-use crate::packets::{push_sent, put_packet};
-use crate::table::push_answer;
-use crate::words::{number_of, numbers_of, parted};
-use crsm_base::{Bytes, Command, Outcome};
-use crsm_client::{AskError, ClientOrder, ask, client, operate, operate_command};
+use crate::lock::push_lock_line;
+use crate::packets::{port_of, push_sent};
+use crate::words::{number_of, parted, sink_of};
+use crsm_base::{Bytes, Command, NoMemory, Outcome};
+use crsm_client::{AskError, ClientOrder, ask, client, operate_command};
 use crsm_io::MemSink;
 use crsm_port::MemPort;
 use crsm_text::{print_outcome, read_members, read_op};
@@ -24,139 +23,186 @@ use std::alloc::Global;
 use std::str::from_utf8;
 
 /// How many bytes an output has at most.
-pub const ROOM: u64 = 4_096;
+const ROOM: u64 = 4_096;
 
 /// Reads a client's number, the command's, and its operation.
-pub fn command(alloc: Global, text: &str) -> Result<Command, Fault>
+pub fn command_of(alloc: Global, text: &str) -> Result<Command, Fault>
     ensures { IfOk result (λ command. FitsCommand command) }
 {
     let (client, text) = parted(text)?;
     let (order, text) = parted(text)?;
-    Ok(Command {
-        client: number_of(client)?,
-        number: number_of(order)?,
-        op: read_op(alloc, text.as_bytes())?,
-    })
+    let client = number_of(client)?;
+    let number = number_of(order)?;
+    let op = read_op(alloc, text.as_bytes())?;
+    Ok(Command { client, number, op })
 }
 
-/// Returns a port that fails at these calls, with the datagrams that wait.
-pub fn port(alloc: Global, calls: &str, datagrams: &str) -> Result<MemPort, Fault> {
-    let fails = numbers_of(alloc, calls)?;
-    let mut port = MemPort::new(alloc, fails.as_slice())?;
-    for word in datagrams.split(' ') {
-        if !word.is_empty() {
-            put_packet(alloc, &mut port, word)?;
-        }
-    }
-    Ok(port)
+/// Returns an output that fails at these calls.
+pub fn output_of(alloc: Global, writes: &str) -> Result<Box<MemSink>, Fault> {
+    let mut output = sink_of(alloc, writes)?;
+    output.reserve(ROOM)?;
+    Ok(output)
 }
 
-/// Writes how it ended, and what was sent, each datagram as `TO:HEX`.
-pub fn with_sent(alloc: Global, end: &str, port: &MemPort) -> Result<String, Fault> {
-    let mut text = Bytes::new(alloc);
-    push_sent(&mut text, port)?;
-    let sent = from_utf8(text.as_slice()).unwrap_or(" no text");
-    Ok(format!(in alloc; "{end}{sent}")?)
+/// Appends how a command ended, what was written, and what was sent.
+pub fn push_ended(
+    alloc: Global,
+    end: &str,
+    output: &MemSink,
+    port: &MemPort,
+    out: &mut Bytes,
+) -> Result<(), Fault> {
+    let written = from_utf8(output.as_slice()).unwrap_or("no text");
+    let text = format!(in alloc; "{end} {written:?}")?;
+    Ok(push_end(text.as_str(), port, out)?)
 }
 
-/// How the command of a client ends, over a port and over an output that fails at these calls.
-fn client_ends(
+/// Appends how it ended, and what was sent, each datagram as `TO:HEX`.
+fn push_end(end: &str, port: &MemPort, out: &mut Bytes) -> Result<(), NoMemory> {
+    out.append(end.as_bytes())?;
+    push_sent(out, port)
+}
+
+/// What the command of a client does, over a port and an output.
+fn push_client(
     alloc: Global,
     order: &ClientOrder,
     cluster: u64,
     port: &mut MemPort,
-    writes: &[u64],
-) -> Result<String, Fault>
+    output: &mut MemSink,
+    out: &mut Bytes,
+) -> Result<(), Fault>
     requires { FitsCommand order.now.command }
 {
-    let mut output = MemSink::new(alloc, writes)?;
-    output.reserve(ROOM)?;
-    let end = client(alloc, order, cluster, port, &mut output);
-    let written = from_utf8(output.as_slice()).unwrap_or("no text");
-    Ok(format!(in alloc; "{end:?} {written:?}")?)
+    let end = client(alloc, order, cluster, port, output);
+    let end = format!(in alloc; "{end:?}")?;
+    push_ended(alloc, end.as_str(), output, port, out)
+}
+
+/// What a client wants of the replica at an address.
+fn order_of(alloc: Global, to: &str, turns: &str, words: &str) -> Result<Box<ClientOrder>, Fault>
+    ensures { IfOk result (λ order. FitsCommand order.value.command) }
+{
+    let to = number_of(to)?;
+    let turns = number_of(turns)?;
+    let command = command_of(alloc, words)?;
+    Ok(Box::new(alloc, ClientOrder { to, turns, command })?)
 }
 
 /// The command of a client.
-fn tell_client(alloc: Global, words: &str, datagrams: &str) -> Result<String, Fault> {
+fn push_client_line(
+    alloc: Global,
+    words: &str,
+    datagrams: &str,
+    out: &mut Bytes,
+) -> Result<(), Fault> {
     let (cluster, words) = parted(words)?;
     let (to, words) = parted(words)?;
     let (turns, words) = parted(words)?;
     let (calls, words) = parted(words)?;
     let (writes, words) = parted(words)?;
     let cluster = number_of(cluster)?;
-    let to = number_of(to)?;
-    let turns = number_of(turns)?;
-    let writes = numbers_of(alloc, writes)?;
-    let mut port = port(alloc, calls, datagrams)?;
-    let command = command(alloc, words)?;
-    let order = ClientOrder { to, turns, command };
-    let end = client_ends(alloc, &order, cluster, &mut port, writes.as_slice())?;
-    with_sent(alloc, end.as_str(), &port)
+    let order = order_of(alloc, to, turns, words)?;
+    let mut port = port_of(alloc, calls, datagrams, ' ')?;
+    let mut output = output_of(alloc, writes)?;
+    push_client(alloc, &order, cluster, &mut port, &mut output, out)
+}
+
+fn outcome_text(alloc: Global, outcome: &Outcome) -> Result<String, Fault> {
+    let mut text = Bytes::new(alloc);
+    print_outcome(alloc, outcome, &mut text)?;
+    let text = from_utf8(text.as_slice()).unwrap_or("no text");
+    Ok(format!(in alloc; "{text:?}")?)
 }
 
 /// How asking ended.
 fn answer_text(alloc: Global, answer: &Result<Outcome, AskError>) -> Result<String, Fault> {
     match answer {
-        Ok(outcome) => {
-            let mut text = Bytes::new(alloc);
-            print_outcome(alloc, outcome, &mut text)?;
-            let text = from_utf8(text.as_slice()).unwrap_or("no text");
-            Ok(format!(in alloc; "{text:?}")?)
-        }
+        Ok(outcome) => outcome_text(alloc, outcome),
         Err(error) => Ok(format!(in alloc; "{error:?}")?),
     }
 }
 
+/// What asking comes to, over a port.
+fn push_asked(
+    alloc: Global,
+    order: &ClientOrder,
+    resend: u64,
+    port: &mut MemPort,
+    out: &mut Bytes,
+) -> Result<(), Fault>
+    requires fits { FitsCommand order.now.command }
+    requires resend { 0 < resend }
+{
+    let answer = ask(alloc, port, order.to, &order.command, order.turns, resend);
+    let end = answer_text(alloc, &answer)?;
+    Ok(push_end(end.as_str(), port, out)?)
+}
+
 /// The call below it.
-fn tell_ask(alloc: Global, words: &str, datagrams: &str) -> Result<String, Fault> {
+fn push_ask_line(
+    alloc: Global,
+    words: &str,
+    datagrams: &str,
+    out: &mut Bytes,
+) -> Result<(), Fault> {
     let (to, words) = parted(words)?;
     let (turns, words) = parted(words)?;
     let (resend, words) = parted(words)?;
     let (calls, words) = parted(words)?;
-    let to = number_of(to)?;
-    let turns = number_of(turns)?;
     let resend = number_of(resend)?.max(1);
-    let mut port = port(alloc, calls, datagrams)?;
-    let command = command(alloc, words)?;
-    let answer = ask(alloc, &mut port, to, &command, turns, resend);
-    let end = answer_text(alloc, &answer)?;
-    with_sent(alloc, end.as_str(), &port)
+    let order = order_of(alloc, to, turns, words)?;
+    let mut port = port_of(alloc, calls, datagrams, ' ')?;
+    push_asked(alloc, &order, resend, &mut port, out)
 }
 
-/// The command of an operator, and for cluster 0 the call below it.
-fn tell_operate(alloc: Global, words: &str, datagrams: &str) -> Result<String, Fault> {
+/// How the command of an operator ends.
+fn operate_text(
+    alloc: Global,
+    to: u64,
+    members: &str,
+    cluster: u64,
+    port: &mut MemPort,
+) -> Result<String, Fault> {
+    let members = read_members(alloc, members.as_bytes())?;
+    let end = operate_command(alloc, to, &members, cluster, port);
+    Ok(format!(in alloc; "{end:?}")?)
+}
+
+/// The command of an operator.
+fn push_operate_line(
+    alloc: Global,
+    words: &str,
+    datagrams: &str,
+    out: &mut Bytes,
+) -> Result<(), Fault> {
     let (cluster, words) = parted(words)?;
     let (to, words) = parted(words)?;
     let (calls, members) = parted(words)?;
     let cluster = number_of(cluster)?;
     let to = number_of(to)?;
-    let members = read_members(alloc, members.as_bytes())?;
-    let mut port = port(alloc, calls, datagrams)?;
-    let end = match cluster {
-        0 => operate(alloc, &mut port, to, &members),
-        _ => operate_command(alloc, to, &members, cluster, &mut port),
-    };
-    let end = format!(in alloc; "{end:?}")?;
-    with_sent(alloc, end.as_str(), &port)
+    let mut port = port_of(alloc, calls, datagrams, ' ')?;
+    let end = operate_text(alloc, to, members, cluster, &mut port)?;
+    Ok(push_end(end.as_str(), &port, out)?)
 }
 
-/// What comes of a line.
-fn answer_to(alloc: Global, line: &str) -> Result<String, Fault> {
+/// Appends what comes of a line.
+fn push_line(alloc: Global, line: &str, out: &mut Bytes) -> Result<(), Fault> {
     let (words, datagrams) = line.split_once(" / ").unwrap_or((line, ""));
     match parted(words)? {
-        ("client", words) => tell_client(alloc, words, datagrams),
-        ("ask", words) => tell_ask(alloc, words, datagrams),
-        ("operate", words) => tell_operate(alloc, words, datagrams),
-        ("lock", words) => tell_lock(alloc, words, datagrams),
-        _ => Err(Fault::Unreadable),
+        ("client", words) => push_client_line(alloc, words, datagrams, out)?,
+        ("ask", words) => push_ask_line(alloc, words, datagrams, out)?,
+        ("operate", words) => push_operate_line(alloc, words, datagrams, out)?,
+        ("lock", words) => push_lock_line(alloc, words, datagrams, out)?,
+        _ => return Err(Fault::Unreadable),
     }
+    Ok(out.push(b'\n')?)
 }
 
-/// Appends the answers to all lines of the table.
+/// Appends what comes of all lines of the table.
 pub fn push_all(alloc: Global, text: &str, out: &mut Bytes) -> Result<(), Fault> {
     for line in text.lines() {
-        let answer = answer_to(alloc, line)?;
-        push_answer(out, answer.as_str())?;
+        push_line(alloc, line, out)?;
     }
     Ok(())
 }

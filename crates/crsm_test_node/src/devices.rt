@@ -1,6 +1,7 @@
 //! What a replica of a run stands between, and the requests that come to it.
 
 use crate::fault::Fault;
+use crate::packets::port_of;
 use crsm_clock::ListClock;
 use crsm_port::MemPort;
 use std::alloc::Global;
@@ -8,17 +9,17 @@ use std::alloc::Global;
 /// A port to which requests come, and a clock that stands still.
 #[derive(Drop)]
 pub struct Devices {
-    pub port: MemPort,
+    pub port: Box<MemPort>,
     pub clock: ListClock,
     // The number of the last request.
     last: u8,
 }
 
 impl Devices {
-    /// Returns devices at which nothing has come yet. These calls of the port fail.
-    pub fn new(alloc: Global, fails: &[u64]) -> Result<Devices, Fault> {
+    /// Returns devices at which nothing has come yet. The calls of a word of the port fail.
+    pub fn new(alloc: Global, fails: &str) -> Result<Devices, Fault> {
         Ok(Devices {
-            port: MemPort::new(alloc, fails)?,
+            port: port_of(alloc, fails, "", ' ')?,
             clock: ListClock::new(alloc, &[5])?,
             last: 0,
         })

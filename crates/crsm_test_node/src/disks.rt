@@ -14,12 +14,23 @@ pub fn disk_of(alloc: Global, line: &str) -> Result<MemDisk, Fault> {
 
 /// Returns a disk with the bytes of a whole file, synced. Its calls of these numbers fail; the first two write the file
 /// and sync it.
-pub fn disk_with(alloc: Global, file: &[u8], fails: &[u64]) -> Result<MemDisk, Fault> {
-    let mut disk = MemDisk::new(alloc, fails, None, 0)?;
+pub fn disk_with(alloc: Global, file: &[u8], fails: &[u64]) -> Result<Box<MemDisk>, Fault> {
+    let mut disk = failing_disk(alloc, fails)?;
+    fill(&mut disk, file)?;
+    Ok(disk)
+}
+
+/// Returns an empty disk whose calls of these numbers fail.
+pub fn failing_disk(alloc: Global, fails: &[u64]) -> Result<Box<MemDisk>, Fault> {
+    let disk = MemDisk::new(alloc, fails, None, 0)?;
+    Ok(Box::new(alloc, disk)?)
+}
+
+fn fill(disk: &mut MemDisk, file: &[u8]) -> Result<(), Fault> {
     disk.reserve(2, file.len() as u64)?;
     disk.write_at(0, file)?;
     disk.sync()?;
-    Ok(disk)
+    Ok(())
 }
 
 /// The bytes of the file that a line says.

@@ -1,7 +1,6 @@
 //! Why the program ends early.
 
 use crsm_base::{Failed, NoMemory};
-use crsm_ledger::LedgerError;
 use crsm_text::LineError;
 use std::alloc::{AllocError, AllocFailed};
 use std::io;
@@ -20,8 +19,6 @@ pub enum Fault {
     Disk,
     #[error("more steps are wanted than can pend")]
     TooMany,
-    #[error("the log is refused: {0}")]
-    BadLog(LedgerError),
 }
 
 impl From<io::Error> for Fault {
@@ -51,15 +48,6 @@ impl<T: Drop> From<AllocFailed<T>> for Fault {
 impl From<Failed> for Fault {
     fn from(_: Failed) -> Fault {
         Fault::Disk
-    }
-}
-
-impl From<LedgerError> for Fault {
-    fn from(error: LedgerError) -> Fault {
-        match error {
-            LedgerError::NoMemory => Fault::NoMemory,
-            refusal => Fault::BadLog(refusal),
-        }
     }
 }
 

@@ -3,11 +3,11 @@
 //! For each line stand the lines of the node's journal, each behind its level, and then `== end`.
 
 use crate::fault::Fault;
-use crate::script::{NodeDevices, Script};
-use crate::words::number_of;
+use crate::script::Script;
+use crate::words::{parted, small_of};
 use crsm_base::Bytes;
 use crsm_ledger::Ledger;
-use crsm_node::{BootReport, Reporter, run_node};
+use crsm_node::{BootReport, Reporter};
 use crsm_replica_journal::Journal;
 use crsm_shell::TurnResult;
 use std::alloc::Global;
@@ -53,36 +53,37 @@ fn push_lines(alloc: Global, journal: &Journal, out: &mut Bytes) -> Result<(), F
     Ok(())
 }
 
+fn push_kept(alloc: Global, kept: &Kept, out: &mut Bytes) -> Result<(), Fault> {
+    match &kept.journal {
+        Some(journal) => push_lines(alloc, journal, out),
+        None => Ok(()),
+    }
+}
+
 /// Runs the node of this number, and appends what it says.
-fn run(alloc: Global, me: u32, script: Script, out: &mut Bytes) -> Result<(), Fault> {
-    let Script { order, devices } = script;
-    let NodeDevices {
-        mut port,
-        mut disk,
-        mut clock,
-        mut sheet,
-    } = devices;
+fn run(alloc: Global, me: u32, script: &mut Script, out: &mut Bytes) -> Result<(), Fault> {
     let mut kept = Kept {
         alloc,
         me,
         journal: None,
     };
-    let _end = run_node(
-        alloc, &order, &mut port, &mut disk, &mut clock, &mut sheet, &mut kept,
-    );
-    if let Some(journal) = &kept.journal {
-        push_lines(alloc, journal, out)?;
-    }
-    out.append(b"== end\n")?;
-    Ok(())
+    let _end = script.run(alloc, &mut kept);
+    push_kept(alloc, &kept, out)
+}
+
+/// Appends what the node of a line says.
+fn push_line(alloc: Global, line: &str, out: &mut Bytes) -> Result<(), Fault> {
+    let (me, _) = parted(line)?;
+    let me = small_of(me)?;
+    let mut script = Script::read(alloc, line, &[])?;
+    run(alloc, me, &mut script, out)
 }
 
 /// Appends what the nodes of all lines of the table say.
 pub fn push_all(alloc: Global, text: &str, out: &mut Bytes) -> Result<(), Fault> {
     for line in text.lines() {
-        let number = number_of(line.split(' ').next().unwrap_or(""))?;
-        let me = u32::try_from(number).map_err(|_| Fault::Unreadable)?;
-        run(alloc, me, Script::read(alloc, line, None)?, out)?;
+        push_line(alloc, line, out)?;
+        out.append(b"== end\n")?;
     }
     Ok(())
 }

@@ -6,10 +6,9 @@
 //! stand between commas, and `-` is none. Behind the status stand the sheet, what was sent, and the file.
 
 use crate::fault::Fault;
-use crate::script::{NodeDevices, Script};
+use crate::script::Script;
 use crsm_base::{Bytes, NoMemory};
-use crsm_disk::MemDisk;
-use crsm_node::{NodeEnd, Silent, run_node};
+use crsm_node::{NodeEnd, Silent};
 use crsm_port::SentPackets;
 use crsm_text::{push_hex, push_named};
 use std::alloc::Global;
@@ -52,37 +51,33 @@ fn push_bytes(out: &mut Bytes, bytes: &[u8]) -> Result<(), NoMemory> {
     out.push(b'\n')
 }
 
-/// Runs a node, appends what came of it, and gives what a crash then leaves of its disk.
-fn run(alloc: Global, script: Script, out: &mut Bytes) -> Result<MemDisk, Fault> {
-    let Script { order, devices } = script;
-    let NodeDevices {
-        mut port,
-        mut disk,
-        mut clock,
-        mut sheet,
-    } = devices;
-    let end = run_node(
-        alloc,
-        &order,
-        &mut port,
-        &mut disk,
-        &mut clock,
-        &mut sheet,
-        &mut Silent,
-    );
+/// Appends what a node left on its devices.
+fn push_left(script: &Script, out: &mut Bytes) -> Result<(), NoMemory> {
+    out.append(script.sheet.as_slice())?;
+    push_sent(out, script.port.sent())?;
+    push_file(out, script.disk.bytes())
+}
+
+/// The bytes that a crash then leaves of its disk.
+fn image_of(alloc: Global, script: &Script) -> Result<Vec<u8>, Fault> {
+    let image = script.disk.image()?;
+    Ok(Vec::from_slice(alloc, image.bytes())?)
+}
+
+/// Runs the node of a line, appends what came of it, and gives what a crash then leaves of its disk.
+fn run(alloc: Global, line: &str, before: &[u8], out: &mut Bytes) -> Result<Vec<u8>, Fault> {
+    let mut script = Script::read(alloc, line, before)?;
+    let end = script.run(alloc, &mut Silent);
     push_end(out, end)?;
-    out.append(sheet.as_slice())?;
-    push_sent(out, port.sent())?;
-    push_file(out, disk.bytes())?;
-    Ok(disk.image()?)
+    push_left(&script, out)?;
+    image_of(alloc, &script)
 }
 
 /// Appends what comes of the nodes of all lines of the table.
 pub fn push_all(alloc: Global, text: &str, out: &mut Bytes) -> Result<(), Fault> {
-    let mut before: Option<MemDisk> = None;
+    let mut before = Vec::new(alloc);
     for line in text.lines() {
-        let script = Script::read(alloc, line, before)?;
-        before = Some(run(alloc, script, out)?);
+        before = run(alloc, line, &before, out)?;
     }
     Ok(())
 }

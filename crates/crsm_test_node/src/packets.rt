@@ -1,11 +1,40 @@
 //! Datagrams with their addresses, as `ADDRESS:HEX`.
 
 use crate::fault::Fault;
-use crate::words::{bytes_of, number_of};
+use crate::words::{bytes_of, number_of, numbers_of};
 use crsm_base::{Bytes, NoMemory};
 use crsm_port::MemPort;
 use crsm_text::{push_hex, push_number};
 use std::alloc::Global;
+
+/// Returns a port whose calls of a word fail, with the datagrams that wait, of which a text has none or more between
+/// these marks.
+pub fn port_of(
+    alloc: Global,
+    calls: &str,
+    datagrams: &str,
+    mark: char,
+) -> Result<Box<MemPort>, Fault> {
+    let fails = numbers_of(alloc, calls)?;
+    let mut port = failing_port(alloc, &fails)?;
+    put_all(alloc, &mut port, datagrams, mark)?;
+    Ok(port)
+}
+
+fn put_all(alloc: Global, port: &mut MemPort, datagrams: &str, mark: char) -> Result<(), Fault> {
+    for word in datagrams.split(mark) {
+        if !word.is_empty() && word != "-" {
+            put_packet(alloc, port, word)?;
+        }
+    }
+    Ok(())
+}
+
+/// Returns a port that fails at these calls.
+pub fn failing_port(alloc: Global, fails: &[u64]) -> Result<Box<MemPort>, Fault> {
+    let port = MemPort::new(alloc, fails)?;
+    Ok(Box::new(alloc, port)?)
+}
 
 /// Returns the address and the bytes of a word.
 pub fn packet_of(alloc: Global, word: &str) -> Result<(u64, Vec<u8>), Fault> {

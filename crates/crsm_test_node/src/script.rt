@@ -1,115 +1,108 @@
 //! The line of a run.
 
-use crate::disks::disk_with;
+use crate::disks::{disk_with, failing_disk};
 use crate::fault::Fault;
-use crate::packets::put_packet;
-use crate::words::{bytes_of, number_of, numbers_of};
+use crate::packets::port_of;
+use crate::words::{bytes_of, number_of, numbers_of, parted, sink_of, small_of};
 use crsm_clock::ListClock;
 use crsm_disk::MemDisk;
 use crsm_io::MemSink;
-use crsm_node::NodeOrder;
+use crsm_node::{NodeEnd, NodeOrder, Reporter, run_node};
 use crsm_port::MemPort;
 use std::alloc::Global;
-use std::str::Split;
 
 /// The most bytes of a sheet.
 const SHEET_BYTES: u64 = 4_194_304;
 
-/// What a node runs over.
-#[derive(Drop)]
-pub struct NodeDevices {
-    pub port: MemPort,
-    pub disk: MemDisk,
-    pub clock: ListClock,
-    pub sheet: MemSink,
-}
-
-/// A node that is to run.
+/// A node that is to run, and what it runs over.
 #[derive(Drop)]
 pub struct Script {
-    pub order: NodeOrder,
-    pub devices: NodeDevices,
+    order: NodeOrder,
+    clock: Box<ListClock>,
+    pub port: Box<MemPort>,
+    pub sheet: Box<MemSink>,
+    pub disk: Box<MemDisk>,
 }
 
 impl Script {
-    /// Reads a line, where the run before left this disk.
-    pub fn read(alloc: Global, line: &str, before: Option<MemDisk>) -> Result<Script, Fault> {
-        let mut words = line.split(' ');
-        let order = read_order(alloc, &mut words)?;
-        let devices = read_devices(alloc, &mut words, before)?;
-        Ok(Script { order, devices })
+    /// Reads a line, where the run before left these bytes of its log.
+    pub fn read(alloc: Global, line: &str, before: &[u8]) -> Result<Box<Script>, Fault> {
+        let (me, words) = parted(line)?;
+        let (n, words) = parted(words)?;
+        let (turns, words) = parted(words)?;
+        let (peers, words) = parted(words)?;
+        let (cluster, words) = parted(words)?;
+        let (readings, words) = parted(words)?;
+        let (datagrams, words) = parted(words)?;
+        let (sends, words) = parted(words)?;
+        let (calls, words) = parted(words)?;
+        let (writes, file) = parted(words)?;
+        let script = Script {
+            order: order_of(alloc, me, n, turns, peers, cluster)?,
+            clock: clock_of(alloc, readings)?,
+            port: port_of(alloc, sends, datagrams, ',')?,
+            sheet: sheet_of(alloc, writes)?,
+            disk: disk_of(alloc, calls, file, before)?,
+        };
+        Ok(Box::new(alloc, script)?)
+    }
+
+    /// Runs the node.
+    pub fn run<R: Reporter>(&mut self, alloc: Global, reporter: &mut R) -> NodeEnd {
+        run_node(
+            alloc,
+            &self.order,
+            &mut *self.port,
+            &mut *self.disk,
+            &mut *self.clock,
+            &mut *self.sheet,
+            reporter,
+        )
     }
 }
 
-fn word<'a>(words: &mut Split<'a, char>) -> Result<&'a str, Fault> {
-    words.next().ok_or(Fault::Unreadable)
-}
-
-fn read_order(alloc: Global, words: &mut Split<'_, char>) -> Result<NodeOrder, Fault> {
-    let me = number_of(word(words)?)?;
-    let n = number_of(word(words)?)?;
-    let turns = number_of(word(words)?)?;
-    let peers = numbers_of(alloc, word(words)?)?;
-    let cluster = number_of(word(words)?)?;
-    let me = u32::try_from(me).map_err(|_| Fault::Unreadable)?;
-    let n = u32::try_from(n).map_err(|_| Fault::Unreadable)?;
+fn order_of(
+    alloc: Global,
+    me: &str,
+    n: &str,
+    turns: &str,
+    peers: &str,
+    cluster: &str,
+) -> Result<NodeOrder, Fault> {
+    let me = small_of(me)?;
+    let n = small_of(n)?;
+    let turns = number_of(turns)?;
+    let cluster = number_of(cluster)?;
+    let peers = numbers_of(alloc, peers)?;
     NodeOrder::new(me, n, turns, peers, cluster).ok_or(Fault::Unreadable)
 }
 
-fn read_devices(
-    alloc: Global,
-    words: &mut Split<'_, char>,
-    before: Option<MemDisk>,
-) -> Result<NodeDevices, Fault> {
-    let clock = ListClock::new(alloc, &numbers_of(alloc, word(words)?)?)?;
-    let datagrams = word(words)?;
-    let mut port = MemPort::new(alloc, &numbers_of(alloc, word(words)?)?)?;
-    put_all(alloc, &mut port, datagrams)?;
-    let failing = numbers_of(alloc, word(words)?)?;
-    let mut sheet = MemSink::new(alloc, &numbers_of(alloc, word(words)?)?)?;
+fn clock_of(alloc: Global, readings: &str) -> Result<Box<ListClock>, Fault> {
+    let readings = numbers_of(alloc, readings)?;
+    Ok(Box::new(alloc, ListClock::new(alloc, &readings)?)?)
+}
+
+fn sheet_of(alloc: Global, writes: &str) -> Result<Box<MemSink>, Fault> {
+    let mut sheet = sink_of(alloc, writes)?;
     sheet.reserve(SHEET_BYTES)?;
-    let disk = disk_of(alloc, word(words)?, failing, before)?;
-    Ok(NodeDevices {
-        port,
-        disk,
-        clock,
-        sheet,
-    })
+    Ok(sheet)
 }
 
-fn put_all(alloc: Global, port: &mut MemPort, text: &str) -> Result<(), Fault> {
-    if text == "-" {
-        return Ok(());
+/// A disk with the bytes of a file, `same` for those before, whose calls of a word fail.
+fn disk_of(alloc: Global, calls: &str, file: &str, before: &[u8]) -> Result<Box<MemDisk>, Fault> {
+    let fails = numbers_of(alloc, calls)?;
+    match file {
+        "-" => failing_disk(alloc, &fails),
+        "same" => disk_with(alloc, before, &later(alloc, &fails)?),
+        _ => disk_with(alloc, &bytes_of(alloc, file)?, &later(alloc, &fails)?),
     }
-    for part in text.split(',') {
-        put_packet(alloc, port, part)?;
-    }
-    Ok(())
-}
-
-/// A disk with the bytes of a file, whose calls of these numbers fail.
-fn disk_of(
-    alloc: Global,
-    file: &str,
-    failing: Vec<u64>,
-    before: Option<MemDisk>,
-) -> Result<MemDisk, Fault> {
-    if file == "-" {
-        return Ok(MemDisk::new(alloc, &failing, None, 0)?);
-    }
-    let bytes = match (file, before) {
-        ("same", Some(disk)) => Vec::from_slice(alloc, disk.bytes())?,
-        ("same", None) => return Err(Fault::Unreadable),
-        (text, _) => bytes_of(alloc, text)?,
-    };
-    disk_with(alloc, &bytes, &later(alloc, &failing)?)
 }
 
 /// The numbers of the calls that fail, behind the two that write the file.
-fn later(alloc: Global, failing: &[u64]) -> Result<Vec<u64>, Fault> {
+fn later(alloc: Global, fails: &[u64]) -> Result<Vec<u64>, Fault> {
     let mut later = Vec::new(alloc);
-    for call in failing {
-        later.push(call.checked_add(2).ok_or(Fault::Unreadable)?)?;
+    for call in fails {
+        later.push(call.wrapping_add(2))?;
     }
     Ok(later)
 }

@@ -7,7 +7,7 @@ use crate::tale_words::{Word, word_of};
 use crate::traces::{push_answered, push_kept, push_refusal};
 use crate::words::{numbers_of, parted};
 use crsm_disk::MemDisk;
-use crsm_shell::{BootError, Shell, TurnError, WantedInput};
+use crsm_shell::{BootError, Shell, TurnError, TurnResult, WantedInput};
 use std::alloc::{AllocError, Global};
 
 /// Writes what comes of a replica that boots on an empty disk and does what the words say. The first two words are the
@@ -21,14 +21,8 @@ pub fn tale_of(alloc: Global, script: &str) -> Result<String, Fault> {
 fn push_tale(alloc: Global, script: &str, out: &mut String) -> Result<(), Fault> {
     let (disk_fails, rest) = parted(script)?;
     let (port_fails, words) = parted(rest)?;
-    let mut devices = devices_of(alloc, port_fails)?;
+    let mut devices = Devices::new(alloc, port_fails)?;
     push_life(alloc, disk_fails, &mut devices, words, out)
-}
-
-/// Devices whose port fails at these calls.
-fn devices_of(alloc: Global, fails: &str) -> Result<Devices, Fault> {
-    let fails = numbers_of(alloc, fails)?;
-    Devices::new(alloc, &fails)
 }
 
 /// An empty disk that fails at these calls.
@@ -65,14 +59,17 @@ fn push_failure(
 /// Appends what comes of the words, and what they leave on the devices.
 fn push_run(
     alloc: Global,
-    shell: Shell<MemDisk>,
+    mut shell: Shell<MemDisk>,
     devices: &mut Devices,
     words: &str,
     out: &mut String,
 ) -> Result<(), Fault> {
-    let mut shell = shell;
-    push_words(&mut shell, devices, words, out)?;
-    push_left(alloc, &shell.into_disk(), devices, out)
+    let pushed = push_words(&mut shell, devices, words, out);
+    let disk = shell.into_disk();
+    match pushed {
+        Ok(()) => push_left(alloc, &disk, devices, out),
+        Err(why) => Err(why),
+    }
 }
 
 fn push_left(
@@ -112,9 +109,9 @@ fn push_word(
         Word::Junk => devices.port.put(9, &[0xff])?,
         Word::Stop { calls, fill } => shell.arm(Some(calls), fill),
         Word::Take(count) => push_receives(shell, devices, count, out)?,
-        Word::Tick => push_tick(take(shell, devices, WantedInput::Tick)?, out)?,
-        Word::Turn => push_turn(turn(shell, devices)?, out)?,
-        Word::Flush => push_flush(shell.flush(&mut devices.port), out)?,
+        Word::Tick => push_step("tick", take(shell, devices, WantedInput::Tick)?, out)?,
+        Word::Turn => push_step("turn", turn(shell, devices)?, out)?,
+        Word::Flush => push_flush(shell.flush(&mut *devices.port), out)?,
     }
     Ok(())
 }
@@ -140,18 +137,10 @@ fn push_receives(
     Ok(())
 }
 
-/// Appends how many bytes a tick's records take, or why there was none.
-fn push_tick(tick: Result<u64, TurnError>, out: &mut String) -> Result<(), AllocError> {
-    match tick {
-        Ok(size) => write!(out, "a tick of {size} bytes; "),
-        Err(why) => write!(out, "{why}; "),
-    }
-}
-
-/// Appends how many bytes the records of a turn take, or why there was none.
-fn push_turn(turn: Result<u64, TurnError>, out: &mut String) -> Result<(), AllocError> {
-    match turn {
-        Ok(size) => write!(out, "a turn of {size} bytes; "),
+/// Appends how many bytes the records of a step of this name take, or why there was none.
+fn push_step(name: &str, step: Result<u64, TurnError>, out: &mut String) -> Result<(), AllocError> {
+    match step {
+        Ok(size) => write!(out, "a {name} of {size} bytes; "),
         Err(why) => write!(out, "{why}; "),
     }
 }
@@ -160,6 +149,14 @@ fn push_flush(flush: Result<(), TurnError>, out: &mut String) -> Result<(), Allo
     match flush {
         Ok(()) => out.push_str("flushed; "),
         Err(why) => write!(out, "{why}; "),
+    }
+}
+
+/// How many bytes the records of a step take.
+fn size_of(step: Result<TurnResult, TurnError>) -> Result<u64, TurnError> {
+    match step {
+        Ok(turned) => Ok(turned.size),
+        Err(why) => Err(why),
     }
 }
 
@@ -172,8 +169,8 @@ fn take(
     if shell.pending() >= 32 {
         return Err(Fault::TooMany);
     }
-    let turned = shell.take(what, &mut devices.clock, &mut devices.port);
-    Ok(turned.map(|turned| turned.size))
+    let step = shell.take(what, &mut devices.clock, &mut *devices.port);
+    Ok(size_of(step))
 }
 
 /// Takes a step that is kept and sent at once, and gives how many bytes its records take.
@@ -184,6 +181,6 @@ fn turn(
     if shell.pending() >= 32 {
         return Err(Fault::TooMany);
     }
-    let turned = shell.turn(WantedInput::Receive, &mut devices.clock, &mut devices.port);
-    Ok(turned.map(|turned| turned.size))
+    let step = shell.turn(WantedInput::Receive, &mut devices.clock, &mut *devices.port);
+    Ok(size_of(step))
 }

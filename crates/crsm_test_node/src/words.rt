@@ -1,9 +1,7 @@
 //! Words of a line.
 
-ghost use Rattle.std.specs.Prelude.{◌<◌, IfOk};
-
 use crate::fault::Fault;
-use crsm_base::MAX_REPLICAS;
+use crsm_io::MemSink;
 use crsm_text::{hex_of, read_number};
 use std::alloc::Global;
 
@@ -35,19 +33,21 @@ pub fn numbers_of(alloc: Global, word: &str) -> Result<Vec<u64>, Fault> {
     Ok(numbers)
 }
 
-/// Returns the number of a replica.
-pub fn replica_of(word: &str) -> Result<u32, Fault>
-    ensures { IfOk result (λ k. k < 15) }
-{
-    let number = number_of(word)?;
-    if number < u64::from(MAX_REPLICAS) {
-        Ok(number as u32)
-    } else {
-        Err(Fault::Unreadable)
+/// Returns a small number of a word, as that of a replica.
+pub fn small_of(word: &str) -> Result<u32, Fault> {
+    match u32::try_from(number_of(word)?) {
+        Ok(number) => Ok(number),
+        Err(_) => Err(Fault::Unreadable),
     }
 }
 
 /// Returns the bytes that a word has in hexadecimal.
 pub fn bytes_of(alloc: Global, word: &str) -> Result<Vec<u8>, Fault> {
     Ok(hex_of(alloc, word.as_bytes())?)
+}
+
+/// Returns an output whose writes of a word fail.
+pub fn sink_of(alloc: Global, writes: &str) -> Result<Box<MemSink>, Fault> {
+    let fails = numbers_of(alloc, writes)?;
+    Ok(Box::new(alloc, MemSink::new(alloc, &fails)?)?)
 }
