@@ -1,33 +1,30 @@
 -- Processes over log files are processes over logs, which are short.
-use Rattle.std.proofs.Common.{◌≡◌, ℕ, ◌+◌, ◌≤◌, List, [], ◌∷◌, ◌++◌, length, length-append, refl, sym, ◌∙◌, ap, subst, inl, inr, arith, append_assoc}
+use Rattle.std.proofs.Common.{◌≡◌, ℕ, ◌≤◌, List, [], ◌∷◌, length, refl, sym, ◌∙◌, ap, subst, inl, inr, arith}
 use Rattle.std.specs.Prelude.{◌^◌, Option, Some, None, slice_get}
-use Rattle.std.specs.List.{AllByRecursion, flat_map}
+use Rattle.std.specs.List.{flat_map}
 use Rattle.std.specs.Option.{option_map_or}
 use Rattle.std.proofs.lemmas.Bool.{cases_lt}
-use Rattle.std.proofs.lemmas.List.{append-nil}
-use Rattle.std.proofs.lemmas.List.Sums.{sum_by-cons}
-use Rattle.crsm_base.specs.Records.{SpeltBody, body_bytes, rec_bytes}
+use Rattle.crsm_base.specs.Records.{SpeltBody}
 use Rattle.crsm_spec.specs.Types.{Rec}
 use Rattle.crsm_spec.specs.Lists.{Among, numbers_below}
 use Rattle.crsm_spec.specs.Log.{Log}
-use Rattle.crsm_spec.specs.Node.{Turn}
-use Rattle.crsm_spec_process.specs.Lives.{Group, Life, kept_turns}
+use Rattle.crsm_spec_process.specs.Lives.{Life}
 use Rattle.crsm_fact_log.specs.Logs.{with_records}
 use Rattle.crsm_ledger.specs.Recovered.{AreKept}
-use Rattle.crsm_spec_process.specs.Turns.{CanBeTaken}
 use Rattle.crsm_law_cluster.specs.Clusters.{Event, Host, Cluster, empty_host, host_at, log_in, with_host, after, unborn}
 use Rattle.crsm_law_cluster.specs.Histories.{last_from, last_cluster}
 use Rattle.crsm_law_cluster.specs.HistoryLaws.{HasShortLogs}
 use Rattle.crsm_law_cluster.specs.ClusterLaws.{IsHistory}
 use Rattle.crsm_law_cluster.proofs.Lists.{set_length, range_length, below}
 use Rattle.crsm_law_lives.specs.Events.{life_events, left_by, lives_of, events_of}
-use Rattle.crsm_law_lives.specs.Premises.{IsProcess, FindWhatIsLeft, Ran}
+use Rattle.crsm_law_lives.specs.Premises.{FindWhatIsLeft, Ran}
 use Rattle.crsm_law_lives.proofs.Hosts.{own_run, own_then, host_run}
 use Rattle.crsm_law_lives.proofs.Processes.{life_left}
 use Rattle.crsm_law_lives.proofs.Laws.{life_own, unborn_there, unborn_size, lives_are_lawful}
 use Rattle.crsm_law_lives.proofs.Right.{steps_are_right}
-use Rattle.crsm_law_processes.specs.Files.{size_of, LeavesBodies, FindBodies, RanOnFiles, with_lost_kept}
+use Rattle.crsm_law_processes.specs.Files.{LeavesBodies, FindBodies, RanOnFiles}
 use Rattle.crsm_law_processes.specs.Laws.{ProcessesAreHistories, StepsOfProcessesAreRight}
+use Rattle.crsm_law_processes.proofs.Bodies.{kept_after_all, kept_size}
 
 abbrev pub BodiesHaveOne : Type 0
 BodiesHaveOne = (a b : List Rec) (s : List ℕ) → SpeltBody a s → SpeltBody b s → a ≡ b
@@ -40,43 +37,6 @@ kept_once one me n log [] a b p q = p ∙ sym q
 kept_once one me n log (body ∷ bodies) a b p q =
     let same = one p.0 q.0 body p.1 q.1 in
     kept_once one me n (with_records log p.0) bodies a b p.3 (subst (λ (recs : List Rec). AreKept me n (with_records log recs) bodies b) (sym same) q.3)
-
--- each record takes a byte at least
-rec_some : (rec : Rec) → 1 ≤ length (rec_bytes rec)
-unfolding rec_bytes
-rec_some (Rec.Boot me n) = omega arith
-rec_some (Rec.Prepare f) = omega arith
-rec_some (Rec.Commit s) = omega arith
-rec_some (Rec.Adopt p es) = omega arith
-rec_some (Rec.Suspend e) = omega arith
-rec_some (Rec.Promise i b) = omega arith
-rec_some (Rec.Accept i b d) = omega arith
-rec_some (Rec.Decide d) = omega arith
-rec_some (Rec.Enter e) = omega arith
-
-recs_size : (recs : List Rec) → length recs ≤ length (body_bytes recs)
-unfolding body_bytes
-recs_size [] = omega arith
-recs_size (rec ∷ recs) =
-    let here = rec_some rec in
-    let rest = recs_size recs in
-    let both = length-append (rec_bytes rec) (body_bytes recs) in
-    omega (arith, here, rest, both)
-
-more_length : (log : Log) (recs : List Rec) → length (with_records log recs) ≡ length log + length recs
-more_length log [] = omega arith
-more_length log (rec ∷ recs) = let t = more_length (rec ∷ log) recs in omega (arith, t)
-
-pub kept_size : (me n : ℕ) (log : Log) (bodies : List (List ℕ)) (end : Log) → AreKept me n log bodies end → length end ≤ length log + size_of bodies
-unfolding size_of
-kept_size me n log [] end p = let e = ap (λ (l : Log). length l) p in omega (arith, e)
-kept_size me n log (body ∷ bodies) end p =
-    let rest = kept_size me n (with_records log p.0) bodies end p.3 in
-    let one = more_length log p.0 in
-    let size = recs_size p.0 in
-    let is = ap (λ (b : List ℕ). length b) p.1.is in
-    let all = sum_by-cons (λ (b : List ℕ). length b) body bodies in
-    omega (arith, rest, one, size, is, all)
 
 -- ---- the processes of one node
 
@@ -163,19 +123,6 @@ module _ (one : BodiesHaveOne) (n : ℕ) (ls : List Life) (h : List Event) (r : 
 
   is_history : n ≤ 15 → IsHistory n h
   is_history most = record { most = most; lawful = (lives_are_lawful n ls h most ran).lawful; short = short }
-
--- the turns are the same
-pub all_turns : (gs : List Group) (lost : List (Turn × ℕ)) → kept_turns (gs ++ record { turns = lost; fates = [] } ∷ []) ≡ kept_turns gs ++ lost
-unfolding kept_turns
-all_turns [] lost = append-nil lost
-all_turns (g ∷ gs) lost = ap (λ z. g.turns ++ z) (all_turns gs lost) ∙ sym (append_assoc g.turns (kept_turns gs) lost)
-
-pub kept_after_all : (l : Life) → IsProcess l → IsProcess (with_lost_kept l)
-unfolding with_lost_kept
-kept_after_all l p = record {
-  number = p.number;
-  turns = subst (AllByRecursion CanBeTaken) (sym (append-nil (kept_turns (l.groups ++ record { turns = l.lost; fates = [] } ∷ [])) ∙ all_turns l.groups l.lost)) p.turns;
-}
 
 pub processes_are_histories : BodiesHaveOne → ProcessesAreHistories
 processes_are_histories one = record { ran = λ n ls h r. ran one n ls h r; history = λ n ls h most r. is_history one n ls h r most; kept_after_all = kept_after_all }

@@ -17,7 +17,7 @@ use Rattle.crsm_law_lives.specs.Events.{left_by}
 use Rattle.crsm_law_lives.specs.Premises.{IsProcess}
 use Rattle.crsm_law_lives.specs.Sending.{HasFates}
 use Rattle.crsm_law_processes.specs.Files.{FindBodies, LeavesBodies, size_of}
-use Rattle.crsm_law_processes.proofs.Files.{kept_size}
+use Rattle.crsm_law_processes.proofs.Bodies.{kept_size}
 use Rattle.crsm_node.specs.Running.{Devices, IsLeftAtStart, NotBooted, RunsLife, over_cluster}
 use Rattle.crsm_node.specs.declared.errors.NodeEnd.{NodeEnd}
 use Rattle.crsm_node.specs.declared.order.NodeOrder.{NodeOrder}

@@ -19,7 +19,7 @@ use Rattle.crsm_law_lives.specs.Premises.{IsProcess}
 use Rattle.crsm_law_lives.specs.Sending.{HasFates}
 use Rattle.crsm_law_lives.specs.Sending as laws
 use Rattle.crsm_law_processes.specs.Files.{LeavesBodies, size_of, with_lost_kept}
-use Rattle.crsm_law_processes.proofs.Files.{all_turns, kept_after_all}
+use Rattle.crsm_law_processes.proofs.Bodies.{all_turns, kept_after_all}
 use Rattle.crsm_node.specs.Kept.{HasBehind, bodies_in_log}
 use Rattle.crsm_node.specs.Running.{Devices, KeepsLife, RunsLife, booted}
 use Rattle.crsm_node.specs.Serving.{IsLeftAtEnd, StopsAt, turns_by_group}
