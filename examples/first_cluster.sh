@@ -23,7 +23,7 @@ ask() {
 }
 
 if [ ! -x "$program" ]; then
-  say "Compiling the program without proofs, some two minutes"
+  say "Compiling the program without proofs: two to three minutes on four processors"
   python3 "$top/tools/unproved.py" "$program" || exit 1
 fi
 trap 'bash "$cluster" stop "$folder/nodes"' EXIT
