@@ -1,17 +1,26 @@
 -- What a port keeps came from below, and what it hands up was kept.
-use Rattle.std.proofs.Common.{◌≡◌, ◌∙◌, ◌<◌, ◌++◌, ℕ, zero, suc, List, [], ◌∷◌, length, map, min, take, drop, set, refl, sym, ap, subst, arith, inl, inr, Vec, Global, length-take, take-append-drop}
-use Rattle.std.specs.Prelude.{◌⊎◌, Contains, slice_index_or}
-use Rattle.std.proofs.lemmas.List.{append_assoc, take_at}
-use Rattle.crsm_port.specs.Meaning.{Packet}
-use Rattle.crsm_port.specs.Passing.{Cut, Datagrams, IsOf, NoMore, Only, either}
+use Rattle.std.proofs.Common.{◌≡◌, ◌∙◌, ◌<◌, ◌++◌, ℕ, zero, suc, List, [], ◌∷◌, length, map, take, drop, set, refl, sym, ap, subst, arith, inl, inr, Option, Some, None, true, Result, Ok, Err, take-append-drop}
+use Rattle.std.proofs.lemmas.Bool.{true≢false}
+use Rattle.std.proofs.lemmas.Option.{none-some}
+use Rattle.std.specs.Prelude.{◌⊎◌, Contains, IfOk, IfSome, IsSome, OnErr, OnOk, slice_index_or}
+use Rattle.crsm_base.specs.declared.memory.Failed.{Failed}
+use Rattle.crsm_base.specs.declared.memory.NoMemory.{NoMemory}
+use Rattle.crsm_port.specs.Meaning.{IsWithin, Packet}
+use Rattle.crsm_port.specs.Passing.{Cut, Datagrams, IsOf, NoMore, Only}
 use Rattle.crsm_port.specs.declared.port.Recv.{Recv}
 use Rattle.crsm_port.specs.declared.port.Recv.TheVariants.{Nothing, Datagram}
-use Rattle.crsm_port_flow.specs.Kept.{KeepsOnly, given_by, kept_at, kept_in, packet_of}
-use Rattle.crsm_port_flow.specs.declared.store.Slot.{Slot}
-
-append_none : (bytes : List ℕ) → bytes ++ [] ≡ bytes
-append_none [] = refl
-append_none (b ∷ bytes) = ap (λ (r : List ℕ). b ∷ r) (append_none bytes)
+use Rattle.crsm_port_flow.specs.Early.{KeepsSome, OneMoreWaits}
+use Rattle.crsm_port_flow.specs.Kept.{GoesUp, KeepsOnly, early_in, given_by, kept_in, of_clients, of_peers, operate_in, packet_in, packet_of, ready_in, waiting_in}
+use Rattle.crsm_port_flow.specs.Order.{FirstGoes, IsTheirTurn, LatestGoes, NextGoes, OldestGoes}
+use Rattle.crsm_port_flow.specs.Turns.{DropsOver}
+use Rattle.crsm_port_flow.specs.declared.clients.Clients.{Clients}
+use Rattle.crsm_port_flow.specs.declared.clients.Operate.{Operate}
+use Rattle.crsm_port_flow.specs.declared.datagram.Datagram.{Datagram as Kept}
+use Rattle.crsm_port_flow.specs.declared.early.Early.{Early}
+use Rattle.crsm_port_flow.specs.declared.early.Frame.{Frame}
+use Rattle.crsm_port_flow.specs.declared.inbound.Inbound.{Inbound}
+use Rattle.crsm_port_flow.specs.declared.peers.FromPeers.{FromPeers}
+use Rattle.crsm_port_flow.specs.declared.requests.Waiting.{Waiting}
 
 -- one that is in a list with another in the place of one was there before, or is the other
 pub set_cases : {X Y : Type 0} (f : X → Y) (xs : List X) (i : ℕ) (x : X) (y : Y) → Contains (map f (set xs i x)) y → Contains (map f xs) y ⊎ (y ≡ f x)
@@ -38,77 +47,82 @@ contains_map f [] k x lt is = absurd (omega (arith, lt))
 contains_map f (z ∷ xs) zero x lt is = (zero, omega arith, ap f (sym is))
 contains_map f (z ∷ xs) (suc k) x lt is = let w = contains_map f xs k x (omega (arith, lt)) is in (suc w.0, omega (arith, w.1), w.2)
 
-address_is : (p q : Packet) → p ≡ q → p.address ≡ q.address
-address_is p q is = ap (λ (x : Packet). x.address) is
-
-bytes_are : (p q : Packet) → p ≡ q → p.bytes ≡ q.bytes
-bytes_are p q is = ap (λ (x : Packet). x.bytes) is
-
--- ---- one datagram more is kept
-
-module _ (from : ℕ) (bytes : List ℕ) (old : List Slot) where
-  -- whole, or without bytes where memory ran out
-  of_slot : (s : Slot) (a : ℕ) (b : List ℕ) → s.from ≡ from → (s.bytes.items ≡ bytes) ⊎ (s.bytes.items ≡ []) → (let p : Packet = record { address = a; bytes = b } in p ≡ packet_of s) → given_by (Only from bytes) old a b
-  of_slot s a b at is same =
-      let address : a ≡ from = address_is (record { address = a; bytes = b }) (packet_of s) same ∙ at in
-      let held : b ≡ s.bytes.items = bytes_are (record { address = a; bytes = b }) (packet_of s) same in
-      elim is [
-        | inl whole ↦ ([], inl (address, append_none b ∙ held ∙ whole))
-        | inr none ↦ (bytes, inl (address, ap (λ (r : List ℕ). r ++ bytes) (held ∙ none)))
-      ]
-
-  before : (a : ℕ) (b : List ℕ) → kept_in old a b → given_by (Only from bytes) old a b
-  before a b has = ([], inr (subst (λ (x : List ℕ). kept_in old a x) (sym (append_none b)) has))
-
-  pub replaced : (i : ℕ) (s : Slot) → s.from ≡ from → (s.bytes.items ≡ bytes) ⊎ (s.bytes.items ≡ []) → KeepsOnly from bytes old (set old i s)
-  replaced i s at is a b has = elim (set_cases packet_of old i s (record { address = a; bytes = b }) has) [
-    | inl w ↦ before a b w
-    | inr e ↦ of_slot s a b at is e
-  ]
-
-  pub added : (s : Slot) → s.from ≡ from → s.bytes.items ≡ bytes → KeepsOnly from bytes old (old ++ s ∷ [])
-  added s at is a b has = elim (push_cases packet_of old s (record { address = a; bytes = b }) has) [
-    | inl w ↦ before a b w
-    | inr e ↦ of_slot s a b at (inl is) e
-  ]
-
-  pub unchanged : KeepsOnly from bytes old old
-  unchanged a b has = before a b has
-
-  pub still : (new : List Slot) → new ≡ old → KeepsOnly from bytes old new
-  still new same a b has = before a b (subst (λ (s : List Slot). kept_in s a b) same has)
-
--- ---- after one another
-
--- what is cut twice is cut
-given_in : (P Q : Datagrams) (old new : List Slot) → NoMore P Q → NoMore (given_by P old) (kept_in new) → NoMore (given_by P old) (given_by Q new)
-given_in P Q old new more kept a b (rest, is) = elim is [
-  | inl came ↦ (rest, inl (more a (b ++ rest) came))
-  | inr has ↦ let w = kept a (b ++ rest) has in (rest ++ w.0, subst (λ (x : List ℕ). either P (kept_in old) a x) (append_assoc b rest w.0) w.1)
-]
+-- ---- what the port gives, where nothing more is kept, or one more
 
 only_more : (P : Datagrams) (from : ℕ) (bytes : List ℕ) → P from bytes → NoMore P (Only from bytes)
 only_more P from bytes came a b (at, same) = subst (λ (x : ℕ). P x b) (sym at) (subst (λ (x : List ℕ). P from x) (sym same) came)
 
-from_below : (P : Datagrams) (from : ℕ) (bytes : List ℕ) (old : List Slot) → P from bytes → NoMore (given_by P old) (given_by (Only from bytes) old)
-from_below P from bytes old came a b (rest, is) = elim is [
-  | inl only ↦ (rest, inl (only_more P from bytes came a (b ++ rest) only))
-  | inr has ↦ (rest, inr has)
+module _ (P Q : Datagrams) (more : NoMore P Q) (i j : Inbound) where
+  pub gives_kept : (from : ℕ) (bytes : List ℕ) → P from bytes → KeepsOnly from bytes (kept_in i) (kept_in j) → NoMore (given_by P i) (given_by Q j)
+  gives_kept from bytes came keeps a b (rest, is) = elim is [
+    | inl below ↦ (rest, inl (more a (b ++ rest) below))
+    | inr has ↦ elim (keeps a (b ++ rest) has) [
+      | inl only ↦ (rest, inl (only_more P from bytes came a (b ++ rest) only))
+      | inr before ↦ (rest, inr before)
+    ]
+  ]
+
+  pub gives_same : NoMore (kept_in i) (kept_in j) → NoMore (given_by P i) (given_by Q j)
+  gives_same keeps a b (rest, is) = elim is [
+    | inl below ↦ (rest, inl (more a (b ++ rest) below))
+    | inr has ↦ (rest, inr (keeps a (b ++ rest) has))
+  ]
+
+pub keeps_both : (from : ℕ) (bytes : List ℕ) (D E F : Datagrams) → KeepsOnly from bytes D E → KeepsOnly from bytes E F → KeepsOnly from bytes D F
+keeps_both from bytes D E F one other a b has = elim (other a b has) [
+  | inl only ↦ inl only
+  | inr between ↦ one a b between
 ]
 
--- two datagrams that are kept after one another
-pub keeps_both : (from : ℕ) (bytes : List ℕ) (old between new : List Slot) → KeepsOnly from bytes old between → KeepsOnly from bytes between new → KeepsOnly from bytes old new
-keeps_both from bytes old between new one other a b has =
-    given_in (Only from bytes) (Only from bytes) old between (λ _ _ h. h) one a b (other a b has)
+pub keeps_then : (from : ℕ) (bytes : List ℕ) (D E F : Datagrams) → KeepsOnly from bytes D E → NoMore E F → KeepsOnly from bytes D F
+keeps_then from bytes D E F one other a b has = one a b (other a b has)
 
-module _ (P Q : Datagrams) (more : NoMore P Q) (old new : List Slot) where
-  -- one that came from below is kept
-  pub gives_kept : (from : ℕ) (bytes : List ℕ) → P from bytes → KeepsOnly from bytes old new → NoMore (given_by P old) (given_by Q new)
-  gives_kept from bytes came keeps = given_in P Q old new more (λ a b has. from_below P from bytes old came a b (keeps a b has))
+pub keeps_none : (from : ℕ) (bytes : List ℕ) (D E : Datagrams) → NoMore D E → KeepsOnly from bytes D E
+keeps_none from bytes D E more a b has = inr (more a b has)
 
-  -- nothing more is kept
-  pub gives_same : new ≡ old → NoMore (given_by P old) (given_by Q new)
-  gives_same same = given_in P Q old new more (λ a b has. ([], inr (subst (λ (x : List ℕ). kept_in old a x) (sym (append_none b)) (subst (λ (s : List Slot). kept_in s a b) same has))))
+pub no_more_same : {X : Type 0} (F : X → Datagrams) (x y : X) → y ≡ x → NoMore (F x) (F y)
+no_more_same {X = X} F x y same a b has = subst (λ (z : X). F z a b) same has
+
+-- ---- frames
+
+pub early_same : (old new : List (Option Frame)) → KeepsSome old new → NoMore (early_in old) (early_in new)
+early_same old new keeps a b (f, has, is) = (f, keeps f has, is)
+
+packet_only : (d : Kept) (from a : ℕ) (bytes b : List ℕ) → (let p : Packet = record { address = from; bytes = bytes } in packet_of d ≡ p) → (let q : Packet = record { address = a; bytes = b } in packet_of d ≡ q) → Only from bytes a b
+packet_only d from a bytes b one other =
+    let same : (record { address = a; bytes = b }) ≡ (record { address = from; bytes = bytes }) = sym other ∙ one in
+    (ap (λ (p : Packet). p.address) same, ap (λ (p : Packet). p.bytes) same)
+
+pub early_more : (from : ℕ) (bytes : List ℕ) (d : Kept) (old new : List (Option Frame)) → (let p : Packet = record { address = from; bytes = bytes } in packet_of d ≡ p) → OneMoreWaits d old new
+    → KeepsOnly from bytes (early_in old) (early_in new)
+early_more from bytes d old new is one a b (f, has, same) = elim (one f has) [
+  | inl before ↦ inr (f, before, same)
+  | inr this ↦ inl (packet_only d from a bytes b is (subst (λ (x : Kept). (let q : Packet = record { address = a; bytes = b } in packet_of x ≡ q)) this same))
+]
+
+-- ---- lists of datagrams
+
+pub ready_more : (from : ℕ) (bytes : List ℕ) (d : Kept) (old new : List Kept) → (let p : Packet = record { address = from; bytes = bytes } in packet_of d ≡ p) → new ≡ old ++ d ∷ [] → KeepsOnly from bytes (ready_in old) (ready_in new)
+ready_more from bytes d old new is same a b has =
+    elim (push_cases packet_of old d (record { address = a; bytes = b }) (subst (λ (ds : List Kept). ready_in ds a b) same has)) [
+      | inl before ↦ inr before
+      | inr this ↦ inl (packet_only d from a bytes b is (sym this))
+    ]
+
+pub waiting_more : (from : ℕ) (bytes : List ℕ) (r : Waiting) (old new : List Waiting) → (let p : Packet = record { address = from; bytes = bytes } in packet_in r ≡ p) → new ≡ old ++ r ∷ []
+    → KeepsOnly from bytes (waiting_in old) (waiting_in new)
+waiting_more from bytes r old new is same a b has =
+    elim (push_cases packet_in old r (record { address = a; bytes = b }) (subst (λ (rs : List Waiting). waiting_in rs a b) same has)) [
+      | inl before ↦ inr before
+      | inr this ↦ inl (packet_only r.datagram from a bytes b is (sym this))
+    ]
+
+-- the first leaves
+pub front_leaves : {X : Type 0} (f : X → Packet) (x : X) (old new : List X) (p : Packet) → old ≡ x ∷ new → Contains (map f new) p → Contains (map f old) p
+front_leaves {X = X} f x old new p is (k, lt, at) = subst (λ (xs : List X). Contains (map f xs) p) (sym is) (suc k, omega (arith, lt), at)
+
+pub front_was : {X : Type 0} (f : X → Packet) (x : X) (old new : List X) → old ≡ x ∷ new → Contains (map f old) (f x)
+front_was {X = X} f x old new is = subst (λ (xs : List X). Contains (map f xs) (f x)) (sym is) (zero, omega arith, refl)
 
 -- ---- handing up
 
@@ -116,17 +130,222 @@ pub of_more : (D E : Datagrams) (buffer : List ℕ) (got : Recv) → NoMore D E 
 of_more D E buffer Nothing more is = tt
 of_more D E buffer (Datagram from len) more is = more from (take len buffer) is
 
--- one that is kept is given
-pub kept_given : (P : Datagrams) (slots : List Slot) (buffer : List ℕ) (got : Recv) → IsOf (Cut (kept_in slots)) buffer got → IsOf (given_by P slots) buffer got
-kept_given P slots buffer got is = of_more (given_by P slots) (Cut (kept_in slots)) buffer got (λ a b w. (w.0, inr w.1)) is
+pub some_of_more : (D E : Datagrams) (buffer : List ℕ) (r : Option Recv) → NoMore D E → IfSome r (IsOf E buffer) → IfSome r (IsOf D buffer)
+some_of_more D E buffer None more is = tt
+some_of_more D E buffer (Some got) more is = of_more D E buffer got more is
 
--- what a buffer holds of a slot's datagram
-pub copied : (slots : List Slot) (k room len : ℕ) (s : Slot) (after rest : List ℕ) → k < length slots → s ≡ slice_index_or slots k s → len ≡ min room (length s.bytes.items) → after ≡ take len s.bytes.items ++ rest
-    → Cut (kept_in slots) s.from (take len after)
-copied slots k room len s after rest lt here size is =
-    let first : take len after ≡ take len s.bytes.items = ap (take len) is ∙ take_at (take len s.bytes.items) rest len (omega (arith, length-take len s.bytes.items, size)) in
-    let whole : take len after ++ drop len s.bytes.items ≡ s.bytes.items = ap (λ (b : List ℕ). b ++ drop len s.bytes.items) first ∙ take-append-drop len s.bytes.items in
-    (drop len s.bytes.items, subst (λ (b : List ℕ). kept_in slots s.from b) (sym whole) (contains_map packet_of slots k s lt here))
+pub ok_some_of_more : (D E : Datagrams) (buffer : List ℕ) (r : Result (Option Recv) Failed) → NoMore D E → IfOk r (λ got. IfSome got (IsOf E buffer)) → IfOk r (λ got. IfSome got (IsOf D buffer))
+ok_some_of_more D E buffer (Err e) more is = tt
+ok_some_of_more D E buffer (Ok got) more is = some_of_more D E buffer got more is
+
+pub ok_of_more : (D E : Datagrams) (buffer : List ℕ) (r : Result Recv Failed) → NoMore D E → IfOk r (IsOf E buffer) → IfOk r (IsOf D buffer)
+ok_of_more D E buffer (Err e) more is = tt
+ok_of_more D E buffer (Ok got) more is = of_more D E buffer got more is
+
+pub some_kept_given : (P : Datagrams) (i : Inbound) (buffer : List ℕ) (r : Option Recv) → IfSome r (IsOf (Cut (kept_in i)) buffer) → IfSome r (IsOf (given_by P i) buffer)
+some_kept_given P i buffer None is = tt
+some_kept_given P i buffer (Some got) is = of_more (given_by P i) (Cut (kept_in i)) buffer got (λ a b w. (w.0, inr w.1)) is
+
+pub cut_more : (D E : Datagrams) → NoMore D E → NoMore (Cut D) (Cut E)
+cut_more D E more a b (rest, is) = (rest, more a (b ++ rest) is)
+
+-- one that is kept is given
+pub kept_given : (P : Datagrams) (i : Inbound) (buffer : List ℕ) (got : Recv) → IsOf (Cut (kept_in i)) buffer got → IsOf (given_by P i) buffer got
+kept_given P i buffer got is = of_more (given_by P i) (Cut (kept_in i)) buffer got (λ a b w. (w.0, inr w.1)) is
+
+pub goes_of : (D : Datagrams) (d : Packet) (before after : List ℕ) (got : Recv) → D d.address d.bytes → GoesUp d before after got → IsOf (Cut D) after got
+goes_of D d before after Nothing has up = tt
+goes_of D d before after (Datagram from len) has (at, size, same) =
+    let whole : take len after ++ drop len d.bytes ≡ d.bytes = ap (λ (b : List ℕ). b ++ drop len d.bytes) same ∙ take-append-drop len d.bytes in
+    (drop len d.bytes, subst (λ (x : ℕ). D x (take len after ++ drop len d.bytes)) (sym at) (subst (λ (b : List ℕ). D d.address b) (sym whole) has))
+
+operate_same : (o p : Operate) → Some o ≡ Some p → o ≡ p
+operate_same o p e = cc
+
+module _ (old new : Inbound) (before after : List ℕ) (got : Recv) where
+  -- what goes up was kept
+  pub next_kept : NextGoes old new before after got → IsOf (Cut (kept_in old)) after got
+  next_kept is = elim is [
+    | inl of_peer ↦
+        let (d, first, _, up) = of_peer.0 in
+        goes_of (kept_in old) (packet_of d) before after got (inl (inl (front_was packet_of d old.peers.ready.items new.peers.ready.items first))) up
+    | inr other ↦ elim other.2 [
+      | inl oldest ↦
+          let (d, (r, first, same), _, up) = oldest in
+          let was : waiting_in old.clients.requests.waiting.items (packet_of d).address (packet_of d).bytes = subst (λ (x : Kept). waiting_in old.clients.requests.waiting.items (packet_of x).address (packet_of x).bytes) same
+          (front_was packet_in r old.clients.requests.waiting.items new.clients.requests.waiting.items first) in
+          goes_of (kept_in old) (packet_of d) before after got (inr (inl was)) up
+      | inr latest ↦
+          let (o, is_operate, _, up, _) = latest in
+          goes_of (kept_in old) (packet_of o.datagram) before after got (inr (inr (o, is_operate, refl))) up
+    ]
+  ]
+
+  -- nothing more is kept then
+  pub next_rest : NextGoes old new before after got → NoMore (kept_in old) (kept_in new)
+  next_rest is a b has = elim is [
+    | inl of_peer ↦
+        let (d, first, early, _) = of_peer.0 in
+        elim has [
+          | inl peers ↦ elim peers [
+            | inl ready ↦ inl (inl (front_leaves packet_of d old.peers.ready.items new.peers.ready.items (record { address = a; bytes = b }) first ready))
+            | inr waits ↦ inl (inr (subst (λ (e : Early). early_in e.frames.items a b) early waits))
+          ]
+          | inr clients ↦ inr (clients_same old.clients new.clients of_peer.1 of_peer.2 a b clients)
+        ]
+    | inr other ↦ elim has [
+      | inl peers ↦ inl (subst (λ (p : FromPeers). of_peers p a b) other.1 peers)
+      | inr clients ↦ elim other.2 [
+        | inl oldest ↦ inr (oldest_rest oldest a b clients)
+        | inr latest ↦ inr (latest_rest latest a b clients)
+      ]
+    ]
+  ]
+    where
+      clients_same : (c e : Clients) → e.requests.waiting.items ≡ c.requests.waiting.items → e.operate ≡ c.operate → NoMore (of_clients c) (of_clients e)
+      clients_same c e waiting operate a b has = elim has [
+        | inl waits ↦ inl (subst (λ (rs : List Waiting). waiting_in rs a b) waiting waits)
+        | inr latest ↦ inr (subst (λ (o : Option Operate). operate_in o a b) operate latest)
+      ]
+
+      oldest_rest : OldestGoes old.clients new.clients before after got → NoMore (of_clients old.clients) (of_clients new.clients)
+      oldest_rest (d, (r, first, same), operate, _) a b has = elim has [
+        | inl waits ↦ inl (front_leaves packet_in r old.clients.requests.waiting.items new.clients.requests.waiting.items (record { address = a; bytes = b }) first waits)
+        | inr latest ↦ inr (subst (λ (o : Option Operate). operate_in o a b) operate latest)
+      ]
+
+      latest_rest : LatestGoes old.clients new.clients before after got → NoMore (of_clients old.clients) (of_clients new.clients)
+      latest_rest (o, was, waiting, _, stays) a b has = elim has [
+        | inl waits ↦ inl (subst (λ (rs : List Waiting). waiting_in rs a b) waiting waits)
+        | inr latest ↦ inr (elim stays [
+          | inl none ↦ absurd (none-some latest.0 (sym none ∙ latest.1))
+          | inr again ↦ (o, was, subst (λ (x : Operate). (let q : Packet = record { address = a; bytes = b } in packet_of x.datagram ≡ q)) (operate_same latest.0 (record o { has_gone = true }) (sym latest.1 ∙ again.1)) latest.2)
+        ])
+      ]
+
+pub no_clients : (c : Clients) → c.requests.waiting.items ≡ [] → c.operate ≡ None → NoMore (λ _ _. ⊥) (of_clients c)
+no_clients c waiting operate a b has = elim has [
+  | inl waits ↦ let w = subst (λ (rs : List Waiting). waiting_in rs a b) waiting waits in omega (arith, w.1)
+  | inr latest ↦ none-some latest.0 (sym operate ∙ latest.1)
+]
+
+module _ (old mid new : Inbound) (before after : List ℕ) (peers : mid.peers ≡ old.peers) (waiting : mid.clients.requests.waiting.items ≡ old.clients.requests.waiting.items) (operate : mid.clients.operate ≡ old.clients.operate) where
+  -- the first of peers goes
+  pub first_next : (r : Option Recv) → new.clients ≡ mid.clients → IfSome r (FirstGoes mid.peers new.peers before after) → IfSome r (NextGoes old new before after)
+  first_next None same goes = tt
+  first_next (Some got) same (d, first, early, up) =
+      inl ((d, ap (λ (p : FromPeers). p.ready.items) (sym peers) ∙ first, early ∙ ap (λ (p : FromPeers). p.early) peers, up), ap (λ (c : Clients). c.requests.waiting.items) same ∙ waiting, ap (λ (c : Clients). c.operate) same ∙ operate)
+
+  -- what another asks for goes
+  pub asked_next : (r : Option Recv) → IsTheirTurn old → new.peers ≡ mid.peers → IfSome r (λ got. OldestGoes mid.clients new.clients before after got ⊎ LatestGoes mid.clients new.clients before after got) → IfSome r (NextGoes old new before after)
+  asked_next None turn same goes = tt
+  asked_next (Some got) turn same goes = inr (
+    turn,
+    same ∙ peers,
+    elim goes [
+      | inl oldest ↦ let (d, (r, first, is), stays, up) = oldest in inl (d, (r, sym waiting ∙ first, is), stays ∙ operate, up)
+      | inr latest ↦ let (o, was, stays, up, later) = latest in inr (o, sym operate ∙ was, stays ∙ waiting, up, later)
+    ],
+  )
+
+  -- nothing goes
+  pub peers_none : new.clients ≡ mid.clients → new.peers.ready.items ≡ [] → new.peers.early ≡ mid.peers.early → NoMore (kept_in old) (kept_in new)
+  peers_none same none early a b has = elim has [
+    | inl of_peer ↦ elim of_peer [
+      | inl ready ↦ let w = subst (λ (ds : List Kept). ready_in ds a b) none ready in absurd (omega (arith, w.1))
+      | inr waits ↦ inl (inr (subst (λ (e : Early). early_in e.frames.items a b) (early ∙ ap (λ (p : FromPeers). p.early) peers) waits))
+    ]
+    | inr of_client ↦ elim of_client [
+      | inl waits ↦ inr (inl (subst (λ (rs : List Waiting). waiting_in rs a b) (ap (λ (c : Clients). c.requests.waiting.items) same ∙ waiting) waits))
+      | inr latest ↦ inr (inr (subst (λ (o : Option Operate). operate_in o a b) (ap (λ (c : Clients). c.operate) same ∙ operate) latest))
+    ]
+  ]
+
+pub some_not_none : (r : Option Recv) → IsSome r → r ≡ None → ⊥
+some_not_none r some none = true≢false (sym (subst (λ (x : Option Recv). IsSome x) none some))
+
+goes_something : (d : Packet) (before after : List ℕ) (got : Recv) → GoesUp d before after got → got ≡ Nothing → ⊥
+goes_something d before after Nothing up is = up
+goes_something d before after (Datagram from len) up is = datagram_something from len is
+  where
+    datagram_something : (from len : ℕ) → Datagram from len ≡ Nothing → ⊥
+    datagram_something from len e = cc
+
+goes_within : (d : Packet) (before after : List ℕ) (got : Recv) → GoesUp d before after got → IsWithin (length before) got
+goes_within d before after Nothing up = tt
+goes_within d before after (Datagram from len) (_, size, _) = omega (arith, size)
+
+-- what goes up is a datagram, within the buffer
+pub next_is : (old new : Inbound) (before after : List ℕ) (got : Recv) → NextGoes old new before after got → (got ≡ Nothing → ⊥) × IsWithin (length before) got
+next_is old new before after got is = elim is [
+  | inl of_peer ↦ let (d, _, _, up) = of_peer.0 in (goes_something (packet_of d) before after got up, goes_within (packet_of d) before after got up)
+  | inr other ↦ elim other.2 [
+    | inl oldest ↦ let (d, _, _, up) = oldest in (goes_something (packet_of d) before after got up, goes_within (packet_of d) before after got up)
+    | inr latest ↦ let (o, _, _, up, _) = latest in (goes_something (packet_of o.datagram) before after got up, goes_within (packet_of o.datagram) before after got up)
+  ]
+]
+
+-- a datagram of a peer is taken in, or of another
+pub peers_kept : (from : ℕ) (bytes : List ℕ) (i j : Inbound) → j.clients ≡ i.clients → KeepsOnly from bytes (of_peers i.peers) (of_peers j.peers) → KeepsOnly from bytes (kept_in i) (kept_in j)
+peers_kept from bytes i j same keeps a b has = elim has [
+  | inl of_peer ↦ elim (keeps a b of_peer) [
+    | inl only ↦ inl only
+    | inr before ↦ inr (inl before)
+  ]
+  | inr of_client ↦ inr (inr (subst (λ (c : Clients). of_clients c a b) same of_client))
+]
+
+pub clients_kept : (from : ℕ) (bytes : List ℕ) (i j : Inbound) → j.peers ≡ i.peers → KeepsOnly from bytes (of_clients i.clients) (of_clients j.clients) → KeepsOnly from bytes (kept_in i) (kept_in j)
+clients_kept from bytes i j same keeps a b has = elim has [
+  | inl of_peer ↦ inr (inl (subst (λ (p : FromPeers). of_peers p a b) same of_peer))
+  | inr of_client ↦ elim (keeps a b of_client) [
+    | inl only ↦ inl only
+    | inr before ↦ inr (inr before)
+  ]
+]
+
+pub kept_still : (from : ℕ) (bytes : List ℕ) (i j : Inbound) → j ≡ i → KeepsOnly from bytes (kept_in i) (kept_in j)
+kept_still from bytes i j same a b has = inr (subst (λ (x : Inbound). kept_in x a b) same has)
+
+-- what others ask for stays
+pub asked_same : (i j : Inbound) → j.peers ≡ i.peers → j.clients.requests.waiting.items ≡ i.clients.requests.waiting.items → j.clients.operate ≡ i.clients.operate → NoMore (kept_in i) (kept_in j)
+asked_same i j peers waiting operate a b has = elim has [
+  | inl of_peer ↦ inl (subst (λ (p : FromPeers). of_peers p a b) peers of_peer)
+  | inr of_client ↦ elim of_client [
+    | inl waits ↦ inr (inl (subst (λ (rs : List Waiting). waiting_in rs a b) waiting waits))
+    | inr latest ↦ inr (inr (subst (λ (o : Option Operate). operate_in o a b) operate latest))
+  ]
+]
+
+-- requests were dropped
+pub dropped_rest : (now : ℕ) (i j : Inbound) → j.peers ≡ i.peers → DropsOver now i.clients.requests.waiting.items j.clients.requests.waiting.items → j.clients.operate ≡ i.clients.operate → NoMore (kept_in i) (kept_in j)
+dropped_rest now i j peers (gone, is, _) operate a b has = elim has [
+  | inl of_peer ↦ inl (subst (λ (p : FromPeers). of_peers p a b) peers of_peer)
+  | inr of_client ↦ elim of_client [
+    | inl waits ↦ inr (inl (subst (λ (rs : List Waiting). waiting_in rs a b) (sym is) (behind gone j.clients.requests.waiting.items waits)))
+    | inr latest ↦ inr (inr (subst (λ (o : Option Operate). operate_in o a b) operate latest))
+  ]
+]
+  where
+    behind : (gone rs : List Waiting) → waiting_in rs a b → waiting_in (gone ++ rs) a b
+    behind [] rs waits = waits
+    behind (r ∷ gone) rs waits = let w = behind gone rs waits in (suc w.0, omega (arith, w.1), w.2)
+
+-- ---- a request that waits
+
+pub request_kept : (from : ℕ) (bytes : List ℕ) (r : Waiting) (c e : Clients) (kept : Result (Unit {0}) NoMemory) → (let p : Packet = record { address = from; bytes = bytes } in packet_in r ≡ p) → e.operate ≡ c.operate
+    → OnOk kept (e.requests.waiting.items ≡ c.requests.waiting.items ++ r ∷ []) → OnErr kept (e.requests.waiting.items ≡ c.requests.waiting.items) → KeepsOnly from bytes (of_clients c) (of_clients e)
+request_kept from bytes r c e (Ok u) is operate more same a b has = elim has [
+  | inl waits ↦ elim (waiting_more from bytes r c.requests.waiting.items e.requests.waiting.items is more a b waits) [
+    | inl only ↦ inl only
+    | inr before ↦ inr (inl before)
+  ]
+  | inr latest ↦ inr (inr (subst (λ (o : Option Operate). operate_in o a b) operate latest))
+]
+request_kept from bytes r c e (Err x) is operate more same a b has = elim has [
+  | inl waits ↦ inr (inl (subst (λ (rs : List Waiting). waiting_in rs a b) same waits))
+  | inr latest ↦ inr (inr (subst (λ (o : Option Operate). operate_in o a b) operate latest))
+]
 
 -- ---- lists whose items are noted
 
@@ -139,36 +358,3 @@ set_or_old (z ∷ xs) (suc i) x y (suc k, lt, is) = elim (set_or_old xs i x y (k
   | inl w ↦ inl (suc w.0, omega (arith, w.1), w.2)
   | inr e ↦ inr e
 ]
-
--- ---- one slot
-
-pub kept_added : (old new : List Slot) (s : Slot) (place from : ℕ) (bytes : List ℕ) → place ≡ length old → new ≡ old ++ s ∷ [] → s.from ≡ from → s.bytes.items ≡ bytes → kept_at place new from bytes
-kept_added old new s place from bytes here is at same =
-    subst (λ (slots : List Slot). kept_at place slots from bytes) (sym is) (subst (λ (k : ℕ). kept_at k (old ++ s ∷ []) from bytes) (sym here) (s, inside old, last old, at, same))
-  where
-    inside : (xs : List Slot) → length xs < length (xs ++ s ∷ [])
-    inside [] = omega arith
-    inside (x ∷ xs) = let more = inside xs in omega (arith, more)
-
-    last : (xs : List Slot) → slice_index_or (xs ++ s ∷ []) (length xs) s ≡ s
-    last [] = refl
-    last (x ∷ xs) = last xs
-
-pub this_copied : (slots : List Slot) (k room len : ℕ) (s : Slot) (after rest : List ℕ) → k < length slots → s ≡ slice_index_or slots k s → len ≡ min room (length s.bytes.items) → after ≡ take len s.bytes.items ++ rest
-    → Cut (kept_at k slots) s.from (take len after)
-this_copied slots k room len s after rest lt here size is =
-    let first : take len after ≡ take len s.bytes.items = ap (take len) is ∙ take_at (take len s.bytes.items) rest len (omega (arith, length-take len s.bytes.items, size)) in
-    let whole : take len after ++ drop len s.bytes.items ≡ s.bytes.items = ap (λ (b : List ℕ). b ++ drop len s.bytes.items) first ∙ take-append-drop len s.bytes.items in
-    (drop len s.bytes.items, (s, lt, sym here, refl, sym whole))
-
--- ---- steps after one another
-
-pub items_same : (a b : Vec Slot Global) → a ≡ b → a.items ≡ b.items
-items_same a b same = ap (λ (v : Vec Slot Global). v.items) same
-
-pub keeps_then : (from : ℕ) (bytes : List ℕ) (old between again new : List Slot) → KeepsOnly from bytes old between → again ≡ between → KeepsOnly from bytes again new → KeepsOnly from bytes old new
-keeps_then from bytes old between again new one same other =
-    keeps_both from bytes old between new one (subst (λ (s : List Slot). KeepsOnly from bytes s new) same other)
-
-pub keeps_still : (from : ℕ) (bytes : List ℕ) (old between new : List Slot) → KeepsOnly from bytes old between → new ≡ between → KeepsOnly from bytes old new
-keeps_still from bytes old between new one same = subst (λ (s : List Slot). KeepsOnly from bytes old s) (sym same) one

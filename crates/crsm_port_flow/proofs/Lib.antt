@@ -1,3 +1,4 @@
+mod Earlies
 mod Flows
 mod Keepings
 mod Sendings

@@ -1,5 +1,8 @@
 pub mod Acks
+pub mod Early
+pub mod Heads
 pub mod Kept
+pub mod Order
 pub mod Taken
 pub mod Turns
 pub mod Waits

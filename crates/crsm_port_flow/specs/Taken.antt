@@ -1,21 +1,82 @@
--- What becomes of a request that came up: it is handed up next, it waits, or it is a repeat of one that is under way.
-use Rattle.std.specs.Prelude.{◌≡◌, ◌⊎◌, ◌++◌, ℕ, List, [], ◌∷◌}
-use Rattle.crsm_port_flow.specs.Kept.{kept_at}
+-- What becomes of a datagram that came up.
+use Rattle.std.specs.Prelude.{◌≡◌, ◌⊎◌, ◌++◌, ◌≤◌, ℕ, List, [], ◌∷◌, Some, false, Contains}
+use Rattle.crsm_port_flow.specs.Early.{IsEarlyIn, Waits, WaitsAs}
+use Rattle.crsm_port_flow.specs.Heads.{HasHead, IsOperate, IsRequest}
+use Rattle.crsm_port_flow.specs.Kept.{packet_of}
 use Rattle.crsm_port_flow.specs.Turns.{IsCommandIn, IsUnderWay}
+use Rattle.crsm_port_flow.specs.declared.clients.Clients.{Clients}
+use Rattle.crsm_port_flow.specs.declared.clients.Operate.{Operate}
 use Rattle.crsm_port_flow.specs.declared.commands.Command.{Command}
+use Rattle.crsm_port_flow.specs.declared.datagram.Datagram.{Datagram}
+use Rattle.crsm_port_flow.specs.declared.hearing.Peer.{Peer}
 use Rattle.crsm_port_flow.specs.declared.inbound.Inbound.{Inbound}
+use Rattle.crsm_port_flow.specs.declared.peers.FromPeers.{FromPeers}
 use Rattle.crsm_port_flow.specs.declared.requests.Waiting.{Waiting}
 
--- it is the last of those that are handed up next
-abbrev pub IsMadeReady : ℕ → List ℕ → Inbound → Inbound → Type 0
-IsMadeReady from bytes old new = (slot : ℕ) × kept_at slot new.store.slots.items from bytes × (new.ready.items ≡ old.ready.items ++ slot ∷ [])
+-- this is the datagram
+abbrev pub Is : ℕ → List ℕ → Datagram → Type 0
+Is from bytes d = packet_of d ≡ record { address = from; bytes = bytes }
+
+-- ---- of a peer
+
+-- all that was ready is, in the same order and before what was not
+abbrev pub StaysReady : List Datagram → List Datagram → Type 0
+StaysReady old new = (behind : List Datagram) × (new ≡ old ++ behind)
+
+-- it is ready, behind all that was
+abbrev pub IsMadeReady : ℕ → List ℕ → List Datagram → List Datagram → Type 0
+IsMadeReady from bytes old new = (d : Datagram) × (behind : List Datagram) × Is from bytes d × (new ≡ old ++ d ∷ behind)
+
+-- it is a frame before which another is missing, and waits
+abbrev pub IsHeld : ℕ → List ℕ → FromPeers → FromPeers → Type 0
+IsHeld from bytes old new =
+    (sender to epoch number : ℕ) × (d : Datagram) × HasHead 1 sender to epoch number bytes × IsEarlyIn sender epoch number old.early.links.items × Is from bytes d × WaitsAs sender number d new.early.frames.items
+
+-- it is a frame that waits already
+abbrev pub IsHeldAlready : List ℕ → FromPeers → Type 0
+IsHeldAlready bytes old = (sender to epoch number : ℕ) × HasHead 1 sender to epoch number bytes × Waits sender number old.early.frames.items
+
+-- what needs no order, and the next frame in order, is ready; a frame before which another is missing waits
+abbrev pub IsTaken : ℕ → List ℕ → FromPeers → FromPeers → Type 0
+IsTaken from bytes old new = IsMadeReady from bytes old.ready.items new.ready.items ⊎ (IsHeld from bytes old new ⊎ IsHeldAlready bytes old)
+
+-- ---- of one who is no peer
 
 -- it is the last of the requests that wait
-abbrev pub IsMadeWait : ℕ → List ℕ → Inbound → Inbound → Type 0
-IsMadeWait from bytes old new = (r : Waiting) × kept_at r.slot new.store.slots.items from bytes × (new.requests.waiting.items ≡ old.requests.waiting.items ++ r ∷ [])
+abbrev pub IsMadeWait : ℕ → List ℕ → ℕ → Clients → Clients → Type 0
+IsMadeWait from bytes now old new = (r : Waiting) × IsRequest bytes × IsCommandIn r.command bytes × Is from bytes r.datagram × (r.since ≡ now) × (new.requests.waiting.items ≡ old.requests.waiting.items ++ r ∷ [])
 
-abbrev pub IsRepeat : List ℕ → ℕ → Inbound → Type 0
-IsRepeat bytes now old = (command : Command) × IsCommandIn command bytes × IsUnderWay command now old.requests.commands.places.items
+-- it is a repeat of a request that waits or has no reply
+abbrev pub IsRepeat : List ℕ → ℕ → Clients → Type 0
+IsRepeat bytes now old = (command : Command) × IsRequest bytes × IsCommandIn command bytes × IsUnderWay command now old.requests.commands.places.items
 
-abbrev pub IsTaken : ℕ → List ℕ → ℕ → Inbound → Inbound → Type 0
-IsTaken from bytes now old new = IsMadeReady from bytes old new ⊎ (IsMadeWait from bytes old new ⊎ IsRepeat bytes now old)
+-- it is the latest request for a membership change, and was not handed up
+abbrev pub IsLatest : ℕ → List ℕ → ℕ → Clients → Type 0
+IsLatest from bytes now new = (o : Operate) × IsOperate bytes × Is from bytes o.datagram × (o.at ≡ now) × (o.has_gone ≡ false) × (new.operate ≡ Some o)
+
+abbrev pub IsAsked : ℕ → List ℕ → ℕ → Clients → Clients → Type 0
+IsAsked from bytes now old new = IsMadeWait from bytes now old new ⊎ (IsRepeat bytes now old ⊎ IsLatest from bytes now new)
+
+-- ---- of anybody
+
+-- one of the peers has this address
+abbrev pub IsPeer : ℕ → List Peer → Type 0
+IsPeer from peers = (p : Peer) × Contains peers p × (p.address ≡ from)
+
+abbrev pub IsStranger : ℕ → List Peer → Type 0
+IsStranger from peers = IsPeer from peers → ⊥
+
+-- it says whom a peer hears
+abbrev pub IsSaid : List ℕ → Type 0
+IsSaid bytes = (mask : List ℕ) × (bytes ≡ 18 ∷ mask)
+
+-- it comes from a peer that has said three times that it does not hear this node
+abbrev pub IsOfDeaf : ℕ → List Peer → Type 0
+IsOfDeaf from peers = (p : Peer) × Contains peers p × (p.address ≡ from) × (3 ≤ p.deaf)
+
+-- a datagram of a peer is taken, and that of another if it asks for something; what a peer says of hearing is not handed up, nor is what comes from one that does not hear this node
+abbrev pub Comes : ℕ → List ℕ → ℕ → List Peer → Inbound → Inbound → Type 0
+Comes from bytes now peers old new =
+    (IsPeer from peers × IsTaken from bytes old.peers new.peers × (new.clients ≡ old.clients))
+    ⊎ ((IsStranger from peers × IsAsked from bytes now old.clients new.clients × (new.peers ≡ old.peers))
+    ⊎ ((new ≡ old) × (IsSaid bytes ⊎ IsOfDeaf from peers)))

@@ -6,6 +6,7 @@ use Rattle.crsm_port_flow.specs.Went.{IsRecent}
 use Rattle.crsm_port_flow.specs.declared.commands.Command.{Command}
 use Rattle.crsm_port_flow.specs.declared.commands.Known.{Known}
 use Rattle.crsm_port_flow.specs.declared.commands.Stage.{Stage}
+use Rattle.crsm_port_flow.specs.declared.datagram.Datagram.{Datagram}
 use Rattle.crsm_port_flow.specs.declared.commands.Stage.TheVariants.{Absent, Waiting, Open}
 use Rattle.crsm_port_flow.specs.declared.requests.Waiting.{Waiting as Request}
 
@@ -26,9 +27,9 @@ IsStageOf command stage places = (k : Known) × Contains places k × (k.command 
 abbrev pub IsUnderWay : Command → ℕ → List Known → Type 0
 IsUnderWay command now places = (k : Known) × Contains places k × (k.command ≡ command) × IsYoung now k.stage
 
--- the oldest request leaves, with its slot
-abbrev pub TakesFirst : ℕ → List Request → List Request → Type 0
-TakesFirst slot old new = (r : Request) × (old ≡ r ∷ new) × (r.slot ≡ slot)
+-- the oldest request leaves, with its datagram
+abbrev pub TakesFirst : Datagram → List Request → List Request → Type 0
+TakesFirst d old new = (r : Request) × (old ≡ r ∷ new) × (r.datagram ≡ d)
 
 -- a request has waited for two seconds
 abbrev pub IsOver : ℕ → Request → Type 0

@@ -3,12 +3,13 @@ use Rattle.std.specs.Prelude.{◌≡◌, ◌⊎◌, ℕ, List, [], ◌∷◌, Re
 use Rattle.crsm_base.specs.declared.memory.Failed.{Failed}
 use Rattle.crsm_port.specs.Meaning.{Meaning, Packet, Sends}
 use Rattle.crsm_port_flow.specs.Acks.{held_in}
-use Rattle.crsm_port_flow.specs.Went.{IsFrameIn, IsPartIn, PartWentLately, WentLately, checksum}
+use Rattle.crsm_port_flow.specs.Heads.{HasHead}
+use Rattle.crsm_port_flow.specs.Went.{IsPartIn, PartWentLately, WentLately, checksum}
 use Rattle.crsm_port_flow.specs.declared.outbound.Outbound.{Outbound}
 
 -- the bytes are a frame that went less than 160 milliseconds ago
 abbrev pub IsFrameAgain : List ℕ → ℕ → Outbound → Type 0
-IsFrameAgain bytes now o = (to epoch number : ℕ) × IsFrameIn to epoch number bytes × WentLately to epoch number now o.repeats.last.items
+IsFrameAgain bytes now o = (from to epoch number : ℕ) × HasHead 1 from to epoch number bytes × WentLately to epoch number now o.repeats.last.items
 
 -- they are a part that went to this address less than 20 milliseconds ago
 abbrev pub IsPartAgain : ℕ → List ℕ → ℕ → Outbound → Type 0

@@ -1,6 +1,5 @@
 -- What went a moment ago, and so does not go again yet.
-use Rattle.std.specs.Prelude.{◌≡◌, ◌⊎◌, ◌+◌, ◌*◌, ◌%◌, ◌^◌, ◌<◌, ◌≤◌, ℕ, List, ◌∷◌, length, drop, Contains, Some, fold, bit_xor}
-use Rattle.crsm_base.specs.Reading.{u64_at}
+use Rattle.std.specs.Prelude.{◌≡◌, ◌⊎◌, ◌+◌, ◌*◌, ◌%◌, ◌^◌, ◌<◌, ◌≤◌, ℕ, List, ◌∷◌, length, drop, Contains, fold, bit_xor}
 use Rattle.crsm_wire.specs.Marks.{behind_any_mark}
 use Rattle.crsm_port_flow.specs.declared.repeats.SentFrame.{SentFrame}
 use Rattle.crsm_port_flow.specs.declared.parts.SentPart.{SentPart}
@@ -10,10 +9,6 @@ abbrev pub IsRecent : ℕ → ℕ → ℕ → Type 0
 IsRecent at now span = (at ≤ now) × (now < at + span)
 
 -- ---- frames
-
--- the bytes are a frame to this replica, of this epoch and number
-abbrev pub IsFrameIn : ℕ → ℕ → ℕ → List ℕ → Type 0
-IsFrameIn to epoch number bytes = (from : ℕ) × (fields after rest : List ℕ) × (behind_any_mark bytes ≡ 1 ∷ from ∷ to ∷ fields) × (u64_at fields ≡ Some (epoch, after)) × (u64_at after ≡ Some (number, rest))
 
 abbrev pub IsFrame : ℕ → ℕ → ℕ → SentFrame → Type 0
 IsFrame to epoch number f = (f.to ≡ to) × (f.epoch ≡ epoch) × (f.number ≡ number)

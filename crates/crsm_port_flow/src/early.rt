@@ -1,5 +1,10 @@
 //! Frames that were received before an earlier frame of their link.
 
+ghost use Rattle.std.specs.Prelude.{◌≡◌, [], IfOk, IfSome, OnOk, true};
+ghost use Rattle.crsm_port_flow.specs.Early.{IsAfterExpected, IsEarlyIn, IsFrameOf, KeepsSome, OneMoreWaits, StayKept, Waits, WaitsAs, WaitedFrom};
+
+use crate::datagram::{Datagram, Room};
+use crate::heads::Head;
 use crate::time::is_recent;
 use crsm_base::NoMemory;
 use std::alloc::Global;
@@ -13,11 +18,12 @@ const WINDOW: usize = 1_024;
 /// sender sees by this which one is missing.
 const TELLING_PAUSE: u64 = 2_000;
 
-/// A kept frame: its number, and the slot of its datagram.
-#[derive(Clone, Copy)]
+/// A kept frame: its sender, its number, and its datagram.
+#[derive(Drop)]
 struct Frame {
+    from: u8,
     number: u64,
-    slot: usize,
+    datagram: Datagram,
 }
 
 /// What becomes of a received frame.
@@ -27,142 +33,226 @@ pub(crate) enum FrameFate {
     InOrder,
     /// It waits for an earlier one.
     Waits,
-    /// It waits, and is handed up as well.
-    WaitsAndTells,
     /// It is kept already.
     IsKept,
 }
 
-/// The frames from one replica in an epoch: the sequence number that is expected next, and those received before it,
-/// each at its number.
-#[derive(Drop)]
-struct Inbound {
+/// The frames from one replica in an epoch: the sequence number that is expected next, and the reading at which a later
+/// frame was handed up last, in microseconds.
+#[derive(Clone, Copy)]
+struct Link {
     epoch: u64,
     next: u64,
     told_at: Option<u64>,
+}
+
+impl Link {
+    /// Returns whether the frame is one of those that are kept: after the expected one, and not too far.
+    fn is_early(&self, epoch: u64, number: u64) -> bool
+        ensures { result ≡ true → IsAfterExpected epoch number self.now }
+    {
+        self.epoch == epoch && number > self.next && number - self.next < WINDOW as u64
+    }
+}
+
+/// Frames that arrived early, each at its sender and number. A link delivers nothing while a frame is missing, and then
+/// needs all after it.
+#[derive(Drop)]
+pub(crate) struct Early {
+    links: Vec<Link>,
     frames: Vec<Option<Frame>>,
 }
 
-/// Frames that arrived early. A link delivers nothing while a frame is missing, and then needs all after it.
-#[derive(Drop)]
-pub(crate) struct Early {
-    inbound: Vec<Inbound>,
-}
-
-/// Returns the index of a number among the kept frames.
-fn place_of(number: u64) -> usize {
-    (number % WINDOW as u64) as usize
-}
-
-impl Inbound {
-    /// Returns a link without frames, or `NoMemory` if memory runs out.
-    fn new(alloc: Global) -> Result<Inbound, NoMemory> {
-        Ok(Inbound {
-            epoch: u64::MAX,
-            next: 0,
-            told_at: None,
-            frames: Vec::from_elem(alloc, None, WINDOW)?,
-        })
-    }
-
-    /// Returns whether the frame is one of those that are kept: after the expected one, and not too far.
-    fn is_early(&self, epoch: u64, number: u64) -> bool {
-        self.epoch == epoch && number > self.next && number - self.next < WINDOW as u64
-    }
-
-    /// Returns what becomes of a frame that waits.
-    fn fate_of_early(&mut self, number: u64, now: u64) -> FrameFate {
-        if self.has(number) {
-            return FrameFate::IsKept;
-        }
-        if self
-            .told_at
-            .is_some_and(|at| is_recent(at, now, TELLING_PAUSE))
-        {
-            return FrameFate::Waits;
-        }
-        self.told_at = Some(now);
-        FrameFate::WaitsAndTells
-    }
-
-    /// Returns whether the frame of this number is kept.
-    fn has(&self, number: u64) -> bool {
-        matches!(self.frames.get(place_of(number)), Some(Some(frame)) if frame.number == number)
-    }
-
-    /// Removes the kept frame of this number, and returns its slot.
-    fn take(&mut self, number: u64) -> Option<usize> {
-        let place = self.frames.get_mut(place_of(number))?;
-        match *place {
-            Some(frame) if frame.number == number => {
-                *place = None;
-                Some(frame.slot)
-            }
-            _ => None,
-        }
-    }
+/// Returns the index of a frame among the kept ones.
+fn place_of(from: u8, number: u64) -> usize {
+    usize::from(from) % REPLICAS * WINDOW + (number % WINDOW as u64) as usize
 }
 
 impl Early {
     /// Returns links without frames, or `NoMemory` if memory runs out.
-    pub(crate) fn new(alloc: Global) -> Result<Early, NoMemory> {
-        let mut inbound = Vec::with_capacity(alloc, REPLICAS)?;
-        for _ in 0..REPLICAS {
-            inbound.push(Inbound::new(alloc)?)?;
-        }
-        Ok(Early { inbound })
+    pub(crate) fn new(alloc: Global) -> Result<Early, NoMemory>
+        ensures { IfOk result (λ e. KeepsSome [] e.frames.items) }
+    {
+        let nothing = Link {
+            epoch: u64::MAX,
+            next: 0,
+            told_at: None,
+        };
+        Ok(Early {
+            links: Vec::from_elem(alloc, nothing, REPLICAS)?,
+            frames: no_frames(alloc)?,
+        })
     }
 
-    /// Records the sequence number that this replica expects next from another. Frames of another epoch are removed:
-    /// their slots are appended to `unused`, and lost to the store if memory runs out.
-    pub(crate) fn note_expected(&mut self, of: u8, epoch: u64, next: u64, unused: &mut Vec<usize>) {
-        let Some(link) = self.inbound.get_mut(usize::from(of)) else {
+    /// Returns what becomes of a received frame.
+    pub(crate) fn fate(&self, frame: Head) -> FrameFate
+        ensures waits { result ≡ FrameFate.Waits → IsEarlyIn frame.from frame.epoch frame.number self.now.links.items }
+        ensures kept { result ≡ FrameFate.IsKept → Waits frame.from frame.number self.now.frames.items }
+    {
+        match self.links.get(usize::from(frame.from)) {
+            Some(link) if link.is_early(frame.epoch, frame.number) => self.fate_of_early(frame),
+            _ => FrameFate::InOrder,
+        }
+    }
+
+    /// Returns what becomes of a frame before which another is missing.
+    fn fate_of_early(&self, frame: Head) -> FrameFate
+        ensures waits { result ≡ FrameFate.InOrder → ⊥ }
+        ensures kept { result ≡ FrameFate.IsKept → Waits frame.from frame.number self.now.frames.items }
+    {
+        if self.has(frame.from, frame.number) {
+            FrameFate::IsKept
+        } else {
+            FrameFate::Waits
+        }
+    }
+
+    /// Returns whether the frame of this sender and number is kept.
+    fn has(&self, from: u8, number: u64) -> bool
+        ensures { result ≡ true → Waits from number self.now.frames.items }
+    {
+        match self.frames.get(place_of(from, number)) {
+            Some(place) => is_frame(place, from, number),
+            None => false,
+        }
+    }
+
+    /// Keeps a frame that waits. `NoMemory` if another is kept in its place.
+    pub(crate) fn keep(&mut self, frame: Head, datagram: Datagram) -> Result<(), NoMemory>
+        ensures waits { OnOk result (WaitsAs frame.from frame.number datagram self.new.frames.items) }
+        ensures stay { StayKept self.old.frames.items self.new.frames.items }
+        ensures only { OneMoreWaits datagram self.old.frames.items self.new.frames.items }
+    {
+        match self.frames.get_mut(place_of(frame.from, frame.number)) {
+            Some(place) if place.is_none() => {
+                *place = Some(Frame {
+                    from: frame.from,
+                    number: frame.number,
+                    datagram,
+                });
+                Ok(())
+            }
+            _ => Err(NoMemory),
+        }
+    }
+
+    /// Returns whether a frame that waits is handed up as well: one of its link was not for a while.
+    pub(crate) fn tells(&mut self, from: u8, now: u64) -> bool
+        ensures { self.new.frames ≡ self.old.frames }
+    {
+        let Some(link) = self.links.get_mut(usize::from(from)) else {
+            return false;
+        };
+        if link
+            .told_at
+            .is_some_and(|at| is_recent(at, now, TELLING_PAUSE))
+        {
+            return false;
+        }
+        link.told_at = Some(now);
+        true
+    }
+
+    /// Records that a frame is handed up, if it is the expected one.
+    pub(crate) fn note_handed_up(&mut self, frame: Head)
+        ensures { self.new.frames ≡ self.old.frames }
+    {
+        if let Some(link) = self.links.get_mut(usize::from(frame.from)) {
+            if link.epoch == frame.epoch && link.next == frame.number {
+                link.next = link.next.saturating_add(1);
+            }
+        }
+    }
+
+    /// Removes the kept frame that is expected next, and records that it is handed up; or returns `None`.
+    pub(crate) fn take_next(&mut self, from: u8) -> Option<Datagram>
+        ensures was { IfSome result (λ d. WaitedFrom from d self.old.frames.items) }
+        ensures only { KeepsSome self.old.frames.items self.new.frames.items }
+    {
+        let link = self.links.get_mut(usize::from(from))?;
+        let next = link.next;
+        let datagram = take_at(&mut self.frames, from, next)?;
+        link.next = next.saturating_add(1);
+        Some(datagram)
+    }
+
+    /// Records the sequence number that this replica expects next from another. Frames of another epoch, and those
+    /// before it, are removed, and their datagrams taken back.
+    pub(crate) fn note_expected(&mut self, of: u8, epoch: u64, next: u64, room: &mut Room)
+        ensures { KeepsSome self.old.frames.items self.new.frames.items }
+    {
+        let Some(link) = self.links.get_mut(usize::from(of)) else {
             return;
         };
-        if link.epoch == epoch && next <= link.next {
+        let Link {
+            epoch: known,
+            next: expected,
+            ..
+        } = *link;
+        if known == epoch && next <= expected {
             return;
-        }
-        for place in &mut link.frames {
-            if let Some(frame) = *place {
-                if link.epoch != epoch || frame.number < next {
-                    let _ = unused.push(frame.slot);
-                    *place = None;
-                }
-            }
         }
         link.epoch = epoch;
         link.next = next;
+        let least = if known == epoch { next } else { u64::MAX };
+        self.forget(of, least, room);
     }
 
-    /// Returns what becomes of a received frame, and records that it is handed up if it is the expected one.
-    pub(crate) fn note(&mut self, of: u8, epoch: u64, number: u64, now: u64) -> FrameFate {
-        let Some(link) = self.inbound.get_mut(usize::from(of)) else {
-            return FrameFate::InOrder;
-        };
-        if link.is_early(epoch, number) {
-            return link.fate_of_early(number, now);
+    /// Removes the kept frames of a replica before a number.
+    fn forget(&mut self, of: u8, least: u64, room: &mut Room)
+        ensures { KeepsSome self.old.frames.items self.new.frames.items }
+    {
+        for number in 0..WINDOW as u64 {
+            if let Some(datagram) = take_below(&mut self.frames, place_of(of, number), least) {
+                room.take_back(datagram);
+            }
         }
-        if link.epoch == epoch && link.next == number {
-            link.next = link.next.saturating_add(1);
-        }
-        FrameFate::InOrder
     }
+}
 
-    /// Keeps a frame that waits, by the slot of its datagram.
-    pub(crate) fn keep(&mut self, of: u8, number: u64, slot: usize) {
-        let Some(link) = self.inbound.get_mut(usize::from(of)) else {
-            return;
-        };
-        if let Some(place) = link.frames.get_mut(place_of(number)) {
-            *place = Some(Frame { number, slot });
-        }
+/// Returns the places of kept frames, all of them free. `NoMemory` if memory runs out.
+fn no_frames(alloc: Global) -> Result<Vec<Option<Frame>>, NoMemory>
+    ensures { IfOk result (λ frames. KeepsSome [] frames.items) }
+{
+    let mut frames = Vec::with_capacity(alloc, REPLICAS * WINDOW)?;
+    for _ in 0..REPLICAS * WINDOW {
+        frames.push(None)?;
     }
+    Ok(frames)
+}
 
-    /// Removes the kept frame that is expected next, records that it is handed up, and returns its slot; or `None`.
-    pub(crate) fn take_next(&mut self, of: u8) -> Option<usize> {
-        let link = self.inbound.get_mut(usize::from(of))?;
-        let slot = link.take(link.next)?;
-        link.next = link.next.saturating_add(1);
-        Some(slot)
+/// Removes the frame of this sender and number, and returns its datagram; or `None`.
+fn take_at(frames: &mut Vec<Option<Frame>>, from: u8, number: u64) -> Option<Datagram>
+    ensures was { IfSome result (λ d. WaitsAs from number d frames.old.items) }
+    ensures only { KeepsSome frames.old.items frames.new.items }
+{
+    let place = frames.get_mut(place_of(from, number))?;
+    if !is_frame(place, from, number) {
+        return None;
     }
+    let frame = place.take()?;
+    Some(frame.datagram)
+}
+
+/// Returns whether this is the frame of this sender and number.
+fn is_frame(place: &Option<Frame>, from: u8, number: u64) -> bool
+    ensures { result ≡ true → IsFrameOf from number place.now }
+{
+    match place {
+        Some(frame) => frame.from == from && frame.number == number,
+        None => false,
+    }
+}
+
+/// Removes the frame at a place if its number is below this one, and returns its datagram; or `None`.
+fn take_below(frames: &mut Vec<Option<Frame>>, place: usize, least: u64) -> Option<Datagram>
+    ensures { KeepsSome frames.old.items frames.new.items }
+{
+    let place = frames.get_mut(place)?;
+    match place {
+        Some(frame) if frame.number < least => {}
+        _ => return None,
+    }
+    let frame = place.take()?;
+    Some(frame.datagram)
 }

@@ -1,17 +1,21 @@
 //! `FlowPort`: retransmission and flow control around a port.
 
-ghost use Rattle.std.specs.Prelude.{◌≡◌, ◌⊎◌, ◌++◌, List, [], take, map, IfOk, IsOk, OnErr, length};
+ghost use Rattle.std.specs.Prelude.{◌≡◌, ◌≢◌, ◌⊎◌, ◌++◌, List, [], take, map, true, IfOk, IfSome, IsOk, IsOkAnd, OnErr, length};
 ghost use Rattle.crsm_port_faults.specs.Counts.{Rose};
-ghost use Rattle.crsm_port.specs.Meaning.{IsWithin, Packet, Sends};
-ghost use Rattle.crsm_port.specs.Passing.{Cut, IsOf, NoMore, PassesOn, Rests};
+ghost use Rattle.crsm_port.specs.Meaning.{IsWithin, Packet, Receives, Sends};
+ghost use Rattle.crsm_port.specs.Passing.{Cut, HandsUp, IsOf, NoMore, PassesOn, Rests};
 ghost use Rattle.crsm_port.specs.Unknown.{unknown};
 ghost use Rattle.crsm_port_flow.specs.Acks.{AllSay, packet_of, sent_with};
 ghost use Rattle.crsm_port_flow.specs.Kept.{KeepsOnly, given_by, kept_in};
+ghost use Rattle.crsm_port_flow.specs.Order.{NextGoes, NothingGoes};
+ghost use Rattle.crsm_port_flow.specs.Taken.{Comes, IsStranger};
 ghost use Rattle.crsm_port_flow.specs.Waits.{MayWait, SendsAll};
 
+use crate::clients::NextAsked;
 use crate::hearing::{Heard, Hearing};
 use crate::inbound::Inbound;
 use crate::outbound::Outbound;
+use crate::quiet::Quiet;
 use crsm_base::{Failed, NoMemory};
 use crsm_clock::Clock;
 use crsm_port::{Port, Recv};
@@ -21,8 +25,14 @@ use std::alloc::Global;
 /// Maximum length of a datagram in bytes, with the mark of a cluster.
 const MOST_RECEIVED: usize = 8_201;
 
-/// Maximum number of datagrams that are read ahead, and that a receive takes in.
+/// Maximum number of datagrams of peers that are read ahead.
 const MOST_AHEAD: usize = 1_024;
+
+/// Maximum number of datagrams that a receive or a look ahead takes in.
+const MOST_TAKEN: usize = 2_048;
+
+/// Number of empty receives of the port below after which an idle node's receive answers that nothing came.
+const IDLE_WAITS: u32 = 5;
 
 /// A port over a port that limits retransmission. A link retransmits its frames at each tick until they are
 /// acknowledged, and a receiver acknowledges each frame and accepts none after a missing one; over a socket with a
@@ -37,13 +47,16 @@ const MOST_AHEAD: usize = 1_024;
 /// - datagrams that have arrived at the inner port are read ahead before the replica syncs its records, up to 1,024;
 /// - a frame received before a missing one is kept, up to 1,024 of a link, and is handed up after that one; one of them
 ///   every 2 milliseconds is handed up at once, too, so that its sender learns what is missing;
-/// - a request waits, one of up to 1,024 and for up to two seconds: behind the datagrams of peers, but for one of four;
-///   while the replica has 64 that it has not answered, since it would refuse it; and while a peer is far behind. One
-///   that has no reply after a second counts no longer. A repeat of a request that waits or has no reply goes no
-///   further;
+/// - from an address that is no peer's, a request is taken in or a request for a membership change, each whole, and
+///   nothing else; they have room of their own;
+/// - a request waits, one of up to 1,280 and for up to two seconds: behind the datagrams of peers, but for one of four;
+///   while the replica has 64 that it has not answered, since it would refuse it; and while a peer is far behind. If
+///   more than 1,024 wait, the oldest goes up to be refused. One that has no reply after a second counts no longer. A
+///   repeat of a request that waits or has no reply goes no further;
 /// - the latest request for a membership change is handed up once more after a second;
 /// - each second each peer is told whom this node hears. A peer that says three times that it does not hear this node
-///   is not heard until it does.
+///   is not heard until it does;
+/// - where nothing but times came and went for 50 milliseconds, a receive asks the inner port five times.
 ///
 /// A send that is held back is answered as sent, whether it is sent later or not: a network may lose it.
 #[derive(Drop)]
@@ -55,6 +68,7 @@ pub struct FlowPort<P, C> {
     inbound: Inbound,
     outbound: Outbound,
     hearing: Hearing,
+    quiet: Quiet,
     // A received datagram.
     room: Vec<u8>,
     // Whether a receive failed after the datagrams that were read ahead.
@@ -64,6 +78,8 @@ pub struct FlowPort<P, C> {
     faults: u64,
     losses: u64,
     empties: u64,
+    // The received datagrams that went no further, since they asked for nothing, or for want of room or memory.
+    dropped: u64,
 }
 
 impl<P: Drop, C: Drop> FlowPort<P, C> {
@@ -76,7 +92,7 @@ impl<P: Drop, C: Drop> FlowPort<P, C> {
         me: usize,
         peers: &[u64],
     ) -> Result<FlowPort<P, C>, NoMemory>
-        ensures { IfOk result (λ p. (p.port ≡ inner) × (p.inbound.store.slots.items ≡ []) × (p.outbound.acks.acks.items ≡ [])) }
+        ensures { IfOk result (λ p. (p.port ≡ inner) × NoMore (λ _ _. ⊥) (kept_in p.inbound) × (p.outbound.acks.acks.items ≡ [])) }
     {
         Ok(FlowPort {
             port: inner,
@@ -85,42 +101,71 @@ impl<P: Drop, C: Drop> FlowPort<P, C> {
             inbound: Inbound::new(alloc)?,
             outbound: Outbound::new(alloc)?,
             hearing: Hearing::new(alloc, me, peers)?,
+            quiet: Quiet::new(),
             room: Vec::from_elem(alloc, 0u8, MOST_RECEIVED)?,
             has_failed: false,
             is_soon: false,
             faults: 0,
             losses: 0,
             empties: 0,
+            dropped: 0,
         })
     }
 }
 
 impl<P: Port, C: Clock> FlowPort<P, C> {
-    /// Takes a received datagram in. If memory runs out it is lost, as any may be.
+    /// Takes a received datagram in. What asks for nothing and comes from nobody who is a peer is dropped, and so is
+    /// what there is no room or no memory for.
     fn take_in(&mut self, from: u64, len: usize)
-        ensures kept { KeepsOnly from (take len self.old.room.items) self.old.inbound.store.slots.items self.new.inbound.store.slots.items }
+        ensures kept { KeepsOnly from (take len self.old.room.items) (kept_in self.old.inbound) (kept_in self.new.inbound) }
+        ensures comes { Comes from (take len self.old.room.items) self.old.now self.old.hearing.peers.items self.old.inbound self.new.inbound ⊎ Rose self.old.dropped self.new.dropped }
+        ensures leaves_room { IsStranger from self.old.hearing.peers.items → self.new.inbound.peers ≡ self.old.inbound.peers }
         ensures port { self.new.port ≡ self.old.port }
         ensures acks { self.new.outbound.acks ≡ self.old.outbound.acks }
         ensures counts { unknown self.new.faults self.new.losses self.new.empties ≡ unknown self.old.faults self.old.losses self.old.empties }
     {
-        let Some(bytes) = self.room.get(..len) else {
-            return;
-        };
-        if self.hearing.note(from, bytes, self.now) != Heard::Open {
-            return;
+        if !self.takes(from, len) {
+            raise(&mut self.dropped);
         }
-        self.outbound.note_received(bytes, self.now);
-        let _ = self.inbound.take_in(from, bytes, self.now);
+    }
+
+    /// Takes a received datagram in, and returns whether it is not dropped.
+    fn takes(&mut self, from: u64, len: usize) -> bool
+        ensures kept { KeepsOnly from (take len self.old.room.items) (kept_in self.old.inbound) (kept_in self.new.inbound) }
+        ensures comes { result ≡ true → Comes from (take len self.old.room.items) self.old.now self.old.hearing.peers.items self.old.inbound self.new.inbound }
+        ensures leaves_room { IsStranger from self.old.hearing.peers.items → self.new.inbound.peers ≡ self.old.inbound.peers }
+        ensures same { self.new ≡ record self.old { hearing = self.new.hearing; quiet = self.new.quiet; inbound = self.new.inbound; outbound = self.new.outbound } }
+        ensures acks { self.new.outbound.acks ≡ self.old.outbound.acks }
+    {
+        let Some(bytes) = self.room.get(..len) else {
+            return false;
+        };
+        match self.hearing.note(from, bytes, self.now) {
+            Heard::Open => {
+                self.quiet.note(bytes, self.now);
+                self.outbound.note_received(bytes, self.now);
+                self.inbound.peers.take_in(from, bytes, self.now).is_ok()
+            }
+            Heard::Stranger => {
+                self.quiet.note(bytes, self.now);
+                self.inbound.clients.take_in(from, bytes, self.now)
+            }
+            Heard::Closed => true,
+            Heard::Says => true,
+        }
     }
 
     /// Reads what has arrived at the port, so that the socket's buffer does not overflow while the node is busy.
     fn read_ahead(&mut self)
-        ensures gives { NoMore (given_by (P.gives self.old.port) self.old.inbound.store.slots.items) (given_by (P.gives self.new.port) self.new.inbound.store.slots.items) }
+        ensures gives { NoMore (given_by (P.gives self.old.port) self.old.inbound) (given_by (P.gives self.new.port) self.new.inbound) }
         ensures sends { NoMore (P.may_send self.old.port) (P.may_send self.new.port) }
         ensures acks { self.new.outbound.acks ≡ self.old.outbound.acks }
         ensures counts { unknown self.new.faults self.new.losses self.new.empties ≡ unknown self.old.faults self.old.losses self.old.empties }
     {
-        for _ in self.inbound.ready()..MOST_AHEAD {
+        for _ in 0..MOST_TAKEN {
+            if self.inbound.peers.ready() >= MOST_AHEAD {
+                return;
+            }
             if !self.read_one() {
                 return;
             }
@@ -129,7 +174,7 @@ impl<P: Port, C: Clock> FlowPort<P, C> {
 
     /// Takes in the next datagram that has arrived at the port, and returns whether there was one.
     fn read_one(&mut self) -> bool
-        ensures gives { NoMore (given_by (P.gives self.old.port) self.old.inbound.store.slots.items) (given_by (P.gives self.new.port) self.new.inbound.store.slots.items) }
+        ensures gives { NoMore (given_by (P.gives self.old.port) self.old.inbound) (given_by (P.gives self.new.port) self.new.inbound) }
         ensures sends { NoMore (P.may_send self.old.port) (P.may_send self.new.port) }
         ensures acks { self.new.outbound.acks ≡ self.old.outbound.acks }
         ensures counts { unknown self.new.faults self.new.losses self.new.empties ≡ unknown self.old.faults self.old.losses self.old.empties }
@@ -152,54 +197,140 @@ impl<P: Port, C: Clock> FlowPort<P, C> {
 
     /// Hands up the next datagram, or `Nothing`. The receive after it may wait again.
     fn next_once(&mut self, buf: &mut [u8]) -> Result<Recv, Failed>
+        ensures goes { self.old.inbound.peers.ready.items ≢ [] → IsOkAnd result (NextGoes self.old.inbound self.new.inbound buf.old buf.new) }
+        ensures nothing { IfOk result (λ got. got ≡ Recv.Nothing → NothingGoes self.new.now self.new.inbound self.new.outbound.window) }
         ensures within { IfOk result (IsWithin (length buf.old)) }
-        ensures given { IfOk result (IsOf (given_by (P.gives self.old.port) self.old.inbound.store.slots.items) buf.new) }
-        ensures gives { NoMore (given_by (P.gives self.old.port) self.old.inbound.store.slots.items) (given_by (P.gives self.new.port) self.new.inbound.store.slots.items) }
+        ensures given { IfOk result (IsOf (given_by (P.gives self.old.port) self.old.inbound) buf.new) }
+        ensures gives { NoMore (given_by (P.gives self.old.port) self.old.inbound) (given_by (P.gives self.new.port) self.new.inbound) }
         ensures sends { NoMore (P.may_send self.old.port) (P.may_send self.new.port) }
         ensures acks { self.new.outbound.acks ≡ self.old.outbound.acks }
         ensures counts { unknown self.new.faults self.new.losses self.new.empties ≡ unknown self.old.faults self.old.losses self.old.empties }
     {
-        let got = self.next(buf);
+        let got = self.first_or_next(buf);
         self.is_soon = false;
         got
     }
 
-    /// Hands up the next datagram, or `Nothing`.
-    fn next(&mut self, buf: &mut [u8]) -> Result<Recv, Failed>
+    /// Hands up the next datagram, or `Nothing`. Nothing is received where one is ready.
+    fn first_or_next(&mut self, buf: &mut [u8]) -> Result<Recv, Failed>
+        ensures goes { self.old.inbound.peers.ready.items ≢ [] → IsOkAnd result (NextGoes self.old.inbound self.new.inbound buf.old buf.new) }
+        ensures nothing { IfOk result (λ got. got ≡ Recv.Nothing → NothingGoes self.new.now self.new.inbound self.new.outbound.window) }
         ensures within { IfOk result (IsWithin (length buf.old)) }
-        ensures given { IfOk result (IsOf (given_by (P.gives self.old.port) self.old.inbound.store.slots.items) buf.new) }
-        ensures gives { NoMore (given_by (P.gives self.old.port) self.old.inbound.store.slots.items) (given_by (P.gives self.new.port) self.new.inbound.store.slots.items) }
+        ensures given { IfOk result (IsOf (given_by (P.gives self.old.port) self.old.inbound) buf.new) }
+        ensures gives { NoMore (given_by (P.gives self.old.port) self.old.inbound) (given_by (P.gives self.new.port) self.new.inbound) }
         ensures sends { NoMore (P.may_send self.old.port) (P.may_send self.new.port) }
         ensures acks { self.new.outbound.acks ≡ self.old.outbound.acks }
         ensures counts { unknown self.new.faults self.new.losses self.new.empties ≡ unknown self.old.faults self.old.losses self.old.empties }
     {
-        for _ in 0..MOST_AHEAD {
-            let admits = self.outbound.admits(self.now);
-            if let Some(got) = self.inbound.hand_up(buf, self.now, admits) {
-                return Ok(got);
-            }
-            let has_request = self.inbound.has_request(self.now, admits);
-            match self.arrived(has_request)? {
-                Recv::Datagram { from, len } => self.take_in(from, len),
-                Recv::Nothing => return Ok(self.request(buf, has_request)),
-            }
+        if self.inbound.peers.ready() > 0 {
+            return Ok(self.last(buf));
         }
-        Ok(Recv::Nothing)
+        self.next(buf)
     }
 
-    /// Hands up the oldest request that waits, if one is admitted, or `Nothing`.
-    fn request(&mut self, buf: &mut [u8], is_admitted: bool) -> Recv
-        ensures within { IsWithin (length buf.old) result }
-        ensures kept { IsOf (Cut (kept_in self.old.inbound.store.slots.items)) buf.new result }
-        ensures slots { self.new.inbound.store.slots ≡ self.old.inbound.store.slots }
-        ensures port { self.new.port ≡ self.old.port }
-        ensures outbound { self.new.outbound ≡ self.old.outbound }
+    /// Hands up the next datagram, or `Nothing`.
+    fn next(&mut self, buf: &mut [u8]) -> Result<Recv, Failed>
+        ensures nothing { IfOk result (λ got. got ≡ Recv.Nothing → NothingGoes self.new.now self.new.inbound self.new.outbound.window) }
+        ensures within { IfOk result (IsWithin (length buf.old)) }
+        ensures given { IfOk result (IsOf (given_by (P.gives self.old.port) self.old.inbound) buf.new) }
+        ensures gives { NoMore (given_by (P.gives self.old.port) self.old.inbound) (given_by (P.gives self.new.port) self.new.inbound) }
+        ensures sends { NoMore (P.may_send self.old.port) (P.may_send self.new.port) }
+        ensures acks { self.new.outbound.acks ≡ self.old.outbound.acks }
         ensures counts { unknown self.new.faults self.new.losses self.new.empties ≡ unknown self.old.faults self.old.losses self.old.empties }
     {
-        if !is_admitted {
-            return Recv::Nothing;
+        let mut waits = self.waits();
+        for _ in 0..MOST_TAKEN {
+            if let Some(got) = self.next_or_more(buf, &mut waits)? {
+                return Ok(got);
+            }
         }
-        match self.inbound.hand_up_request(buf, self.now) {
+        Ok(self.last(buf))
+    }
+
+    /// Hands up the next datagram, or `Nothing` if none comes, or takes one in and returns `None`. The port below may
+    /// still be asked `waits` times.
+    fn next_or_more(&mut self, buf: &mut [u8], waits: &mut u32) -> Result<Option<Recv>, Failed>
+        ensures within { IfOk result (λ got. IfSome got (IsWithin (length buf.old))) }
+        ensures given { IfOk result (λ got. IfSome got (IsOf (given_by (P.gives self.old.port) self.old.inbound) buf.new)) }
+        ensures gives { NoMore (given_by (P.gives self.old.port) self.old.inbound) (given_by (P.gives self.new.port) self.new.inbound) }
+        ensures sends { NoMore (P.may_send self.old.port) (P.may_send self.new.port) }
+        ensures acks { self.new.outbound.acks ≡ self.old.outbound.acks }
+        ensures counts { unknown self.new.faults self.new.losses self.new.empties ≡ unknown self.old.faults self.old.losses self.old.empties }
+        ensures nothing { IfOk result (λ got. IfSome got (λ up. up ≡ Recv.Nothing → NothingGoes self.new.now self.new.inbound self.new.outbound.window)) }
+    {
+        let admits = self.outbound.admits(self.now);
+        match self.inbound.hand_up(buf, self.now, admits, false) {
+            Some(got) => Ok(Some(got)),
+            None => self.receive_one(buf, admits, waits),
+        }
+    }
+
+    /// Takes in the next datagram of the port below and returns `None`, or hands up what waits if none comes.
+    fn receive_one(
+        &mut self,
+        buf: &mut [u8],
+        admits: bool,
+        waits: &mut u32,
+    ) -> Result<Option<Recv>, Failed>
+        ensures within { IfOk result (λ got. IfSome got (IsWithin (length buf.old))) }
+        ensures given { IfOk result (λ got. IfSome got (IsOf (given_by (P.gives self.old.port) self.old.inbound) buf.new)) }
+        ensures gives { NoMore (given_by (P.gives self.old.port) self.old.inbound) (given_by (P.gives self.new.port) self.new.inbound) }
+        ensures sends { NoMore (P.may_send self.old.port) (P.may_send self.new.port) }
+        ensures acks { self.new.outbound.acks ≡ self.old.outbound.acks }
+        ensures counts { unknown self.new.faults self.new.losses self.new.empties ≡ unknown self.old.faults self.old.losses self.old.empties }
+        ensures nothing { IfOk result (λ got. IfSome got (λ up. up ≡ Recv.Nothing → NothingGoes self.new.now self.new.inbound self.new.outbound.window)) }
+    {
+        let asked = self.inbound.clients.next(self.now, admits);
+        let is_busy = asked != NextAsked::Nothing;
+        match self.arrived(is_busy) {
+            Ok(Recv::Datagram { from, len }) => {
+                self.take_in(from, len);
+                Ok(None)
+            }
+            Ok(Recv::Nothing) => Ok(self.nothing_came(buf, is_busy, waits)),
+            Err(Failed) => Err(Failed),
+        }
+    }
+
+    /// Hands up what waits, or `Nothing`; or returns `None` if an idle node's receive goes on.
+    fn nothing_came(&mut self, buf: &mut [u8], is_busy: bool, waits: &mut u32) -> Option<Recv>
+        ensures within { IfSome result (IsWithin (length buf.old)) }
+        ensures kept { IfSome result (IsOf (Cut (kept_in self.old.inbound)) buf.new) }
+        ensures rest { NoMore (kept_in self.old.inbound) (kept_in self.new.inbound) }
+        ensures nothing { IfSome result (λ up. up ≡ Recv.Nothing → NothingGoes self.new.now self.new.inbound self.new.outbound.window) }
+        ensures same { self.new ≡ record self.old { inbound = self.new.inbound } }
+        ensures port { self.new.port ≡ self.old.port }
+    {
+        if *waits > 1 && !is_busy {
+            *waits -= 1;
+            return None;
+        }
+        Some(self.last(buf))
+    }
+
+    /// Returns how often the port below is asked before a receive answers that nothing came: an idle node takes fewer
+    /// ticks, which tell its peers the time each.
+    fn waits(&self) -> u32 {
+        if !self.is_soon && self.quiet.is_idle(self.now) {
+            IDLE_WAITS
+        } else {
+            1
+        }
+    }
+
+    /// Hands up the next datagram where nothing else comes, or `Nothing`.
+    fn last(&mut self, buf: &mut [u8]) -> Recv
+        ensures within { IsWithin (length buf.old) result }
+        ensures goes { result ≢ Recv.Nothing → NextGoes self.old.inbound self.new.inbound buf.old buf.new result }
+        ensures nothing { result ≡ Recv.Nothing → NothingGoes self.new.now self.new.inbound self.new.outbound.window }
+        ensures some { result ≡ Recv.Nothing → self.old.inbound.peers.ready.items ≡ [] }
+        ensures kept { IsOf (Cut (kept_in self.old.inbound)) buf.new result }
+        ensures rest { NoMore (kept_in self.old.inbound) (kept_in self.new.inbound) }
+        ensures same { self.new ≡ record self.old { inbound = self.new.inbound } }
+        ensures port { self.new.port ≡ self.old.port }
+    {
+        let admits = self.outbound.admits(self.now);
+        match self.inbound.hand_up(buf, self.now, admits, true) {
             Some(got) => got,
             None => Recv::Nothing,
         }
@@ -228,11 +359,16 @@ impl<P: Port, C: Clock> FlowPort<P, C> {
 impl<P: Port, C: Clock> Port for FlowPort<P, C> {
     ghost meaning = { λ p. unknown p.faults p.losses p.empties };
 
-    ghost gives = { λ p. given_by (P.gives p.port) p.inbound.store.slots.items };
+    ghost gives = { λ p. given_by (P.gives p.port) p.inbound };
 
     ghost may_send = { λ p. sent_with (P.may_send p.port) p.outbound.acks.acks.items };
 
-    fn recv(&mut self, buf: &mut [u8]) -> Result<Recv, Failed> {
+    fn recv(&mut self, buf: &mut [u8]) -> Result<Recv, Failed>
+        ensures receives { Receives (unknown self.old.faults self.old.losses self.old.empties) (unknown self.new.faults self.new.losses self.new.empties) buf.old buf.new result }
+        ensures hands_up { HandsUp (given_by (P.gives self.old.port) self.old.inbound) (given_by (P.gives self.new.port) self.new.inbound) (sent_with (P.may_send self.old.port) self.old.outbound.acks.acks.items) (sent_with (P.may_send self.new.port) self.new.outbound.acks.acks.items) buf.new result }
+        ensures goes { self.old.inbound.peers.ready.items ≢ [] → IsOkAnd result (NextGoes self.old.inbound self.new.inbound buf.old buf.new) }
+        ensures nothing { IfOk result (λ got. got ≡ Recv.Nothing → NothingGoes self.new.now self.new.inbound self.new.outbound.window) }
+    {
         self.outbound.acks.let_go(&mut self.port);
         match self.next_once(buf) {
             Ok(Recv::Datagram { from, len }) => Ok(Recv::Datagram { from, len }),
@@ -249,10 +385,11 @@ impl<P: Port, C: Clock> Port for FlowPort<P, C> {
 
     fn send(&mut self, to: u64, bytes: &[u8]) -> Result<(), Failed>
         ensures sends { Sends to bytes.now (unknown self.old.faults self.old.losses self.old.empties) (unknown self.new.faults self.new.losses self.new.empties) result }
-        ensures passes_on { PassesOn (given_by (P.gives self.old.port) self.old.inbound.store.slots.items) (given_by (P.gives self.new.port) self.new.inbound.store.slots.items) (sent_with (P.may_send self.old.port) self.old.outbound.acks.acks.items) (sent_with (P.may_send self.new.port) self.new.outbound.acks.acks.items) to bytes.now }
+        ensures passes_on { PassesOn (given_by (P.gives self.old.port) self.old.inbound) (given_by (P.gives self.new.port) self.new.inbound) (sent_with (P.may_send self.old.port) self.old.outbound.acks.acks.items) (sent_with (P.may_send self.new.port) self.new.outbound.acks.acks.items) to bytes.now }
         ensures goes { Sends to bytes.now (P.meaning self.old.port) (P.meaning self.new.port) result ⊎ (IsOk result × (self.new.port ≡ self.old.port) × MayWait to bytes.now self.old.now self.old.outbound self.new.outbound) }
         ensures lost { OnErr result (Rose (P.meaning self.old.port).losses (P.meaning self.new.port).losses) }
     {
+        self.quiet.note(bytes, self.now);
         self.inbound.note_sent(bytes);
         if !self.outbound.may_go(to, bytes, self.now) {
             return Ok(());
@@ -268,7 +405,7 @@ impl<P: Port, C: Clock> Port for FlowPort<P, C> {
 
     fn reserve(&mut self, sends: u64, bytes: u64) -> Result<(), NoMemory> {
         self.now = self.clock.now();
-        self.inbound.look_at_clock(self.now);
+        self.inbound.clients.look_at_clock(self.now);
         self.read_ahead();
         self.port.reserve(sends, bytes)
     }
@@ -279,7 +416,7 @@ impl<P: Port, C: Clock> Port for FlowPort<P, C> {
 
     fn flush(&mut self)
         ensures same { unknown self.new.faults self.new.losses self.new.empties ≡ unknown self.old.faults self.old.losses self.old.empties }
-        ensures rests { Rests (given_by (P.gives self.old.port) self.old.inbound.store.slots.items) (given_by (P.gives self.new.port) self.new.inbound.store.slots.items) (sent_with (P.may_send self.old.port) self.old.outbound.acks.acks.items) (sent_with (P.may_send self.new.port) self.new.outbound.acks.acks.items) }
+        ensures rests { Rests (given_by (P.gives self.old.port) self.old.inbound) (given_by (P.gives self.new.port) self.new.inbound) (sent_with (P.may_send self.old.port) self.old.outbound.acks.acks.items) (sent_with (P.may_send self.new.port) self.new.outbound.acks.acks.items) }
         ensures goes { (said : List Packet) × AllSay said × SendsAll (map packet_of self.old.outbound.acks.acks.items ++ said) (P.meaning self.old.port) (P.meaning self.new.port) }
         ensures none_held { self.new.outbound.acks.acks.items ≡ [] }
     {

@@ -4,6 +4,7 @@ ghost use Rattle.std.specs.Prelude.{◌≡◌, ◌∷◌, ℕ, List};
 ghost use Rattle.crsm_port.specs.Meaning.{Packet};
 ghost use Rattle.crsm_port.specs.Passing.{NoMore, either};
 ghost use Rattle.crsm_port_flow.specs.Acks.{AllSay, SaysHearing};
+ghost use Rattle.crsm_port_flow.specs.Taken.{IsOfDeaf, IsPeer, IsSaid, IsStranger};
 ghost use Rattle.crsm_port_flow.specs.Waits.{SendsAll};
 
 use crate::time::is_recent;
@@ -37,6 +38,15 @@ impl Peer {
         self.heard_at
             .is_some_and(|at| is_recent(at, now, HEARD_FOR))
     }
+
+    /// Records what the peer says: whether it hears this node.
+    fn note_said(&mut self, hears_me: bool) {
+        self.deaf = if hears_me {
+            0
+        } else {
+            self.deaf.saturating_add(1)
+        };
+    }
 }
 
 /// What a node knows of its peers. A link that loses all packets one way is closed in the other direction as well, so
@@ -57,6 +67,8 @@ pub(crate) enum Heard {
     Closed,
     /// It says whom a peer hears.
     Says,
+    /// It comes from nobody who is a peer.
+    Stranger,
 }
 
 /// Returns whether the bit of a replica is set.
@@ -84,28 +96,29 @@ impl Hearing {
     }
 
     /// Records a datagram, and returns what becomes of it.
-    pub(crate) fn note(&mut self, from: u64, bytes: &[u8], now: u64) -> Heard {
+    pub(crate) fn note(&mut self, from: u64, bytes: &[u8], now: u64) -> Heard
+        ensures stranger { result ≡ Heard.Stranger → IsStranger from self.old.peers.items }
+        ensures peer { result ≡ Heard.Open → IsPeer from self.old.peers.items }
+        ensures says { result ≡ Heard.Says → IsSaid bytes.now }
+        ensures closed { result ≡ Heard.Closed → IsOfDeaf from self.old.peers.items }
+    {
         let me = self.me;
-        for peer in &mut self.peers {
-            if peer.address == from {
-                peer.heard_at = Some(now);
-                if let [HEARING, high, low, ..] = bytes {
-                    let hears_me = has_bit(u16::from_be_bytes([*high, *low]), me);
-                    peer.deaf = if hears_me {
-                        0
-                    } else {
-                        peer.deaf.saturating_add(1)
-                    };
-                    return Heard::Says;
-                }
-                return if peer.deaf >= MOST_DEAF {
-                    Heard::Closed
-                } else {
-                    Heard::Open
-                };
-            }
+        let Some(place) = self.peers.iter().position(|peer| peer.address == from) else {
+            return Heard::Stranger;
+        };
+        let Some(peer) = self.peers.get_mut(place) else {
+            return Heard::Stranger;
+        };
+        peer.heard_at = Some(now);
+        if let [HEARING, high, low, ..] = bytes {
+            peer.note_said(has_bit(u16::from_be_bytes([*high, *low]), me));
+            return Heard::Says;
         }
-        Heard::Open
+        if peer.deaf >= MOST_DEAF {
+            Heard::Closed
+        } else {
+            Heard::Open
+        }
     }
 
     /// Returns the datagram that says whom this node hears: a bit for each replica, replica 0 the lowest.

@@ -1,305 +1,112 @@
-//! The datagrams that came up and are not handed up yet, each in its order.
+//! The datagrams that came up and are not handed up yet.
 
-ghost use Rattle.std.specs.Prelude.{◌≡◌, ℕ, [], IfOk, IfSome, OnOk, length};
-ghost use Rattle.crsm_port.specs.Meaning.{IsWithin};
-ghost use Rattle.crsm_port.specs.Passing.{Cut, IsOf};
-ghost use Rattle.crsm_port_flow.specs.Kept.{KeepsOnly, kept_at, kept_in};
-ghost use Rattle.crsm_port_flow.specs.Taken.{IsMadeReady, IsTaken};
-ghost use Rattle.crsm_port_flow.specs.Turns.{AreInTime, DropsOver, TakesFirst};
+ghost use Rattle.std.specs.Prelude.{◌≡◌, ◌≢◌, ◌⊎◌, [], IfOk, IfSome, IsSome, None, true};
+ghost use Rattle.crsm_port.specs.Passing.{NoMore};
+ghost use Rattle.crsm_port_flow.specs.Kept.{kept_in};
+ghost use Rattle.crsm_port_flow.specs.Order.{FirstGoes, IsNotDue, IsTheirTurn, LatestGoes, NextGoes, NoneGoes, OldestGoes};
 
-use crate::again::Again;
-use crate::commands::Command;
-use crate::early::{Early, FrameFate};
-use crate::requests::{RequestFate, Requests};
-use crate::store::Store;
+use crate::clients::{Clients, NextAsked};
+use crate::heads::{ACK, head_in, is_reply};
+use crate::peers::FromPeers;
 use crsm_base::NoMemory;
 use crsm_port::Recv;
-use crsm_wire::{PacketHead, peek};
 use std::alloc::Global;
-use std::collections::VecDeque;
 
-/// Maximum number of frames that have waited for another one.
-const MOST_FOLLOWING: usize = 1_024;
+/// Number of datagrams of peers that are handed up between two of others, if there are so many.
+const PEERS_FIRST: u32 = 3;
 
-/// Number of other datagrams that are handed up between two requests, if there are so many.
-const OTHERS_FIRST: u32 = 3;
-
-/// The datagrams that came up: those in order, those that wait for an earlier frame, and requests that wait.
+/// The datagrams of peers, and what others ask for.
 #[derive(Drop)]
 pub(crate) struct Inbound {
-    store: Store,
-    ready: VecDeque<usize>,
-    early: Early,
-    requests: Requests,
-    again: Again,
-    // The slots of frames that are no longer needed.
-    unused: Vec<usize>,
-    since_request: u32,
+    pub(crate) peers: FromPeers,
+    pub(crate) clients: Clients,
+    // The number of datagrams of peers that were handed up since the last of another.
+    since_client: u32,
 }
 
 impl Inbound {
     /// Returns a state without datagrams, or `NoMemory` if memory runs out.
     pub(crate) fn new(alloc: Global) -> Result<Inbound, NoMemory>
-        ensures { IfOk result (λ i. i.store.slots.items ≡ []) }
+        ensures { IfOk result (λ i. NoMore (λ _ _. ⊥) (kept_in i)) }
     {
         Ok(Inbound {
-            store: Store::new(alloc),
-            ready: VecDeque::new(alloc),
-            early: Early::new(alloc)?,
-            requests: Requests::new(alloc)?,
-            again: Again::new(),
-            unused: Vec::new(alloc),
-            since_request: 0,
+            peers: FromPeers::new(alloc)?,
+            clients: Clients::new(alloc)?,
+            since_client: 0,
         })
     }
 
-    /// Returns the number of datagrams that can be handed up at once.
-    pub(crate) fn ready(&self) -> usize {
-        self.ready.len()
-    }
-
-    /// Takes a datagram in, to be handed up in its order. `NoMemory` if memory runs out; the datagram is then lost, as
-    /// any may be.
-    pub(crate) fn take_in(&mut self, from: u64, bytes: &[u8], now: u64) -> Result<(), NoMemory>
-        ensures { KeepsOnly from bytes.now self.old.store.slots.items self.new.store.slots.items }
+    /// Returns what goes up next of those who are no peers, if it is their turn: after three datagrams of peers, or if
+    /// nothing else is ready and nothing else comes.
+    fn next_asked(&mut self, now: u64, admits: bool, is_last: bool) -> NextAsked
+        ensures peers { (self.new.peers ≡ self.old.peers) × (self.new.since_client ≡ self.old.since_client) }
+        ensures waiting { self.new.clients.requests.waiting.items ≡ self.old.clients.requests.waiting.items }
+        ensures operate { self.new.clients.operate ≡ self.old.clients.operate }
+        ensures turn { result ≢ NextAsked.Nothing → IsTheirTurn self.old }
+        ensures membership { result ≡ NextAsked.Membership → self.old.clients.operate ≢ None }
+        ensures command { result ≡ NextAsked.Command → self.old.clients.requests.waiting.items ≢ [] }
+        ensures nothing { result ≡ NextAsked.Nothing → is_last ≡ true → self.old.peers.ready.items ≡ [] → IsNotDue now self.new.clients.operate × (admits ≡ true → NoneGoes self.new.clients) }
     {
-        match peek(bytes) {
-            PacketHead::Frame {
-                from: sender,
-                epoch,
-                number,
-                ..
-            } => self.take_frame(from, bytes, sender, (epoch, number), now),
-            PacketHead::Request(_) => self.take_request(from, bytes, now),
-            PacketHead::Operate => self.take_operate(from, bytes, now),
-            _ => self.make_ready(from, bytes),
+        let is_turn = self.since_client >= PEERS_FIRST || is_last && self.peers.ready() == 0;
+        if is_turn {
+            self.clients.next(now, admits)
+        } else {
+            NextAsked::Nothing
         }
     }
 
-    /// Keeps a request for a membership change, to be handed up next and once more later.
-    fn take_operate(&mut self, from: u64, bytes: &[u8], now: u64) -> Result<(), NoMemory>
-        ensures { KeepsOnly from bytes.now self.old.store.slots.items self.new.store.slots.items }
-    {
-        let slot = self.store.put(from, bytes)?;
-        let earlier = self.again.note(slot, now);
-        self.store.free_if(earlier);
-        self.make_ready(from, bytes)
-    }
-
-    /// Keeps a datagram to be handed up next.
-    fn make_ready(&mut self, from: u64, bytes: &[u8]) -> Result<(), NoMemory>
-        ensures goes { OnOk result (IsMadeReady from bytes.now self.old self.new) }
-        ensures only { KeepsOnly from bytes.now self.old.store.slots.items self.new.store.slots.items }
-    {
-        let slot = self.store.put(from, bytes)?;
-        self.ready.push_back(slot)?;
-        Ok(())
-    }
-
-    /// Takes a frame in. If it is the expected one, those that waited for it follow it.
-    fn take_frame(
+    /// Hands up the next datagram, cut to the buffer, or returns `None`. Requests go up only if they are admitted, and
+    /// behind what may still come unless this is the last question.
+    pub(crate) fn hand_up(
         &mut self,
-        from: u64,
-        bytes: &[u8],
-        sender: u8,
-        frame: (u64, u64),
+        buf: &mut [u8],
         now: u64,
-    ) -> Result<(), NoMemory>
-        ensures { KeepsOnly from bytes.now self.old.store.slots.items self.new.store.slots.items }
+        admits: bool,
+        is_last: bool,
+    ) -> Option<Recv>
+        ensures goes { IfSome result (NextGoes self.old self.new buf.old buf.new) }
+        ensures none { result ≡ None → (self.old.peers.ready.items ≡ []) × (self.new.peers.ready.items ≡ []) }
+        ensures nothing { result ≡ None → is_last ≡ true → IsNotDue now self.new.clients.operate × (admits ≡ true → NoneGoes self.new.clients) }
+        ensures same { result ≡ None → NoMore (kept_in self.old) (kept_in self.new) }
     {
-        let (epoch, number) = frame;
-        let fate = self.early.note(sender, epoch, number, now);
-        self.take_by_fate(from, bytes, (sender, number), fate)?;
-        self.follow(sender)
-    }
-
-    /// Keeps a frame of this sender and number for later, or makes it ready, or both.
-    fn take_by_fate(
-        &mut self,
-        from: u64,
-        bytes: &[u8],
-        frame: (u8, u64),
-        fate: FrameFate,
-    ) -> Result<(), NoMemory>
-        ensures { KeepsOnly from bytes.now self.old.store.slots.items self.new.store.slots.items }
-    {
-        let (sender, number) = frame;
-        match fate {
-            FrameFate::InOrder => self.make_ready(from, bytes),
-            FrameFate::Waits => self.keep_early(from, bytes, sender, number),
-            FrameFate::WaitsAndTells => {
-                self.keep_early(from, bytes, sender, number)?;
-                self.make_ready(from, bytes)
-            }
-            FrameFate::IsKept => Ok(()),
+        match self.next_asked(now, admits, is_last) {
+            NextAsked::Nothing => self.hand_up_of_peer(buf),
+            next => self.hand_up_asked(next, buf, now),
         }
     }
 
-    /// Keeps a frame until the one before it has come.
-    fn keep_early(
-        &mut self,
-        from: u64,
-        bytes: &[u8],
-        sender: u8,
-        number: u64,
-    ) -> Result<(), NoMemory>
-        ensures { KeepsOnly from bytes.now self.old.store.slots.items self.new.store.slots.items }
+    /// Hands up the first datagram of a peer.
+    fn hand_up_of_peer(&mut self, buf: &mut [u8]) -> Option<Recv>
+        ensures first { IfSome result (FirstGoes self.old.peers self.new.peers buf.old buf.new) }
+        ensures none { result ≡ None → (self.old.peers.ready.items ≡ []) × (self.new.peers.ready.items ≡ []) × (self.new.peers.early ≡ self.old.peers.early) }
+        ensures clients { self.new.clients ≡ self.old.clients }
     {
-        let slot = self.store.put(from, bytes)?;
-        self.early.keep(sender, number, slot);
-        Ok(())
+        let got = self.peers.hand_up(buf)?;
+        self.since_client = self.since_client.saturating_add(1);
+        Some(got)
     }
 
-    /// Makes the frames ready that have waited for those before them.
-    fn follow(&mut self, sender: u8) -> Result<(), NoMemory>
-        ensures { self.new.store.slots ≡ self.old.store.slots }
+    /// Hands up what another asks for.
+    fn hand_up_asked(&mut self, next: NextAsked, buf: &mut [u8], now: u64) -> Option<Recv>
+        requires membership { next ≡ NextAsked.Membership → self.old.clients.operate ≢ None }
+        requires command { next ≡ NextAsked.Command → self.old.clients.requests.waiting.items ≢ [] }
+        requires something { next ≢ NextAsked.Nothing }
+        ensures goes { IfSome result (λ got. OldestGoes self.old.clients self.new.clients buf.old buf.new got ⊎ LatestGoes self.old.clients self.new.clients buf.old buf.new got) }
+        ensures some { IsSome result }
+        ensures peers { self.new.peers ≡ self.old.peers }
     {
-        for _ in 0..MOST_FOLLOWING {
-            let Some(slot) = self.early.take_next(sender) else {
-                return Ok(());
-            };
-            self.ready.push_back(slot)?;
-        }
-        Ok(())
-    }
-
-    /// Takes a request in. It goes no further if the node has it already.
-    fn take_request(&mut self, from: u64, bytes: &[u8], now: u64) -> Result<(), NoMemory>
-        ensures goes { OnOk result (IsTaken from bytes.now now self.old self.new) }
-        ensures only { KeepsOnly from bytes.now self.old.store.slots.items self.new.store.slots.items }
-    {
-        let Some(command) = Command::of(bytes) else {
-            return self.make_ready(from, bytes);
-        };
-        match self.requests.fate(command, now) {
-            RequestFate::IsUnderWay => Ok(()),
-            RequestFate::HasNoRoom => self.make_ready(from, bytes),
-            RequestFate::Waits => {
-                let slot = self.store.put(from, bytes)?;
-                self.requests.keep(command, slot, now)
-            }
-        }
-    }
-
-    /// Drops the requests that have waited too long, and makes the latest request for a membership change ready once
-    /// more when it is due.
-    pub(crate) fn look_at_clock(&mut self, now: u64)
-        ensures slots { self.new.store.slots ≡ self.old.store.slots }
-        ensures dropped { DropsOver now self.old.requests.waiting.items self.new.requests.waiting.items }
-        ensures in_time { AreInTime now self.new.requests.waiting.items }
-    {
-        while let Some(slot) = self.requests.take_expired(now) {
-            self.store.free(slot);
-        }
-        self.make_due_ready(now);
-    }
-
-    /// Makes the latest request for a membership change ready once more when it is due.
-    fn make_due_ready(&mut self, now: u64)
-        ensures slots { self.new.store.slots ≡ self.old.store.slots }
-        ensures requests { self.new.requests ≡ self.old.requests }
-    {
-        if let Some(slot) = self.again.take_due(now) {
-            if self.ready.push_back(slot).is_err() {
-                self.store.free(slot);
-            }
-        }
-    }
-
-    /// Returns whether a request waits and is admitted, and the node has room for it.
-    pub(crate) fn has_request(&mut self, now: u64, admits: bool) -> bool
-        ensures { self.new.store.slots ≡ self.old.store.slots }
-    {
-        if !admits {
-            return false;
-        }
-        self.requests.has_ready(now)
-    }
-
-    /// Returns whether a request is next: one waits and is admitted, others went before it, and the node has room.
-    fn is_request_next(&mut self, now: u64, admits: bool) -> bool
-        ensures { self.new.store ≡ self.old.store }
-    {
-        if !admits || self.since_request < OTHERS_FIRST {
-            return false;
-        }
-        self.requests.has_ready(now)
-    }
-
-    /// Hands up the next datagram, cut to the buffer, or returns `None`: a request after some others, if requests are
-    /// admitted.
-    pub(crate) fn hand_up(&mut self, buf: &mut [u8], now: u64, admits: bool) -> Option<Recv>
-        ensures within { IfSome result (IsWithin (length buf.old)) }
-        ensures kept { IfSome result (IsOf (Cut (kept_in self.old.store.slots.items)) buf.new) }
-        ensures same { self.new.store.slots ≡ self.old.store.slots }
-    {
-        if self.is_request_next(now, admits) {
-            return self.hand_up_request(buf, now);
-        }
-        let slot = self.ready.pop_front()?;
-        self.since_request = self.since_request.saturating_add(1);
-        self.hand_up_slot(slot, buf)
-    }
-
-    /// Hands up the oldest request that waits, cut to the buffer, or returns `None`.
-    pub(crate) fn hand_up_request(&mut self, buf: &mut [u8], now: u64) -> Option<Recv>
-        ensures first { IfSome result (λ got. (slot : ℕ) × TakesFirst slot self.old.requests.waiting.items self.new.requests.waiting.items × IsOf (Cut (kept_at slot self.old.store.slots.items)) buf.new got) }
-        ensures within { IfSome result (IsWithin (length buf.old)) }
-        ensures kept { IfSome result (IsOf (Cut (kept_in self.old.store.slots.items)) buf.new) }
-        ensures same { self.new.store.slots ≡ self.old.store.slots }
-    {
-        self.since_request = 0;
-        let slot = self.requests.take(now)?;
-        self.hand_up_slot(slot, buf)
-    }
-
-    /// Hands up the datagram of a slot, which is then free.
-    fn hand_up_slot(&mut self, slot: usize, buf: &mut [u8]) -> Option<Recv>
-        ensures this { IfSome result (IsOf (Cut (kept_at slot self.old.store.slots.items)) buf.new) }
-        ensures requests { self.new.requests ≡ self.old.requests }
-        ensures within { IfSome result (IsWithin (length buf.old)) }
-        ensures kept { IfSome result (IsOf (Cut (kept_in self.old.store.slots.items)) buf.new) }
-        ensures same { self.new.store.slots ≡ self.old.store.slots }
-    {
-        let got = self.store.hand_up(slot, buf);
-        self.store.free(slot);
-        got
-    }
-
-    /// Records the sequence number that this replica expects next from another, and makes the frames ready that have
-    /// waited for those before it.
-    fn note_expected(&mut self, of: u8, epoch: u64, next: u64)
-        ensures { self.new.store.slots ≡ self.old.store.slots }
-    {
-        self.early.note_expected(of, epoch, next, &mut self.unused);
-        while let Some(slot) = self.unused.pop() {
-            self.store.free(slot);
-        }
-        let _ = self.follow(of);
+        self.since_client = 0;
+        self.clients.hand_up(next, buf, now)
     }
 
     /// Records what a datagram says that the replica sends.
     pub(crate) fn note_sent(&mut self, bytes: &[u8])
-        ensures { self.new.store.slots ≡ self.old.store.slots }
+        ensures { NoMore (kept_in self.old) (kept_in self.new) }
     {
-        match peek(bytes) {
-            PacketHead::Ack {
-                to: sender,
-                epoch,
-                next,
-                ..
-            } => self.note_expected(sender, epoch, next),
-            PacketHead::Reply(_) => self.note_answered(bytes),
-            _ => {}
-        }
-    }
-
-    /// Records that the node has answered a command.
-    fn note_answered(&mut self, reply: &[u8])
-        ensures { self.new.store.slots ≡ self.old.store.slots }
-    {
-        if let Some(command) = Command::of(reply) {
-            self.requests.note_answered(command);
+        if let Some(expected) = head_in(ACK, bytes) {
+            self.peers.note_expected(expected);
+        } else if is_reply(bytes) {
+            self.clients.note_answered(bytes);
         }
     }
 }

@@ -3,8 +3,9 @@
 #![tactic(auto)]
 
 mod acks;
-mod again;
+mod clients;
 mod commands;
+mod datagram;
 mod early;
 mod flow;
 mod heads;
@@ -12,9 +13,10 @@ mod hearing;
 mod inbound;
 mod outbound;
 mod parts;
+mod peers;
+mod quiet;
 mod repeats;
 mod requests;
-mod store;
 mod time;
 mod window;
 

@@ -3,15 +3,15 @@
 ghost use Rattle.std.specs.Prelude.{◌≡◌, [], false, IfOk};
 ghost use Rattle.crsm_port.specs.Passing.{OneMore};
 ghost use Rattle.crsm_port_flow.specs.Acks.{held_in};
+ghost use Rattle.crsm_port_flow.specs.Order.{IsBehind};
 ghost use Rattle.crsm_port_flow.specs.Waits.{MayWait};
 
 use crate::acks::LastAcks;
-use crate::heads::{frame_in, part_in};
+use crate::heads::{ACK, FRAME, head_in, part_in};
 use crate::parts::RecentParts;
 use crate::repeats::Repeats;
 use crate::window::Window;
 use crsm_base::NoMemory;
-use crsm_wire::{PacketHead, peek};
 use std::alloc::Global;
 
 /// What was sent, and the acknowledgements that are held.
@@ -42,37 +42,31 @@ impl Outbound {
         ensures held { OneMore to bytes.now (held_in self.old.acks.acks.items) (held_in self.new.acks.acks.items) }
         ensures later { result ≡ false → MayWait to bytes.now now self.old self.new }
     {
-        if let Some(frame) = frame_in(bytes) {
+        if let Some(frame) = head_in(FRAME, bytes) {
             self.window.note_sent(frame, now);
             return self.repeats.may_go(frame, now);
         }
         if let Some(part) = part_in(bytes) {
             return self.parts.may_go(to, part, now);
         }
-        match peek(bytes) {
-            PacketHead::Ack { .. } => !self.acks.hold(to, bytes),
-            _ => true,
-        }
+        head_in(ACK, bytes).is_none() || !self.acks.hold(to, bytes)
     }
 
     /// Records what a received acknowledgement says.
     pub(crate) fn note_received(&mut self, bytes: &[u8], now: u64)
         ensures { self.new.acks ≡ self.old.acks }
     {
-        if let PacketHead::Ack {
-            from,
-            epoch,
-            next,
-            ..
-        } = peek(bytes)
-        {
-            self.repeats.note_expected(from, epoch, next);
-            self.window.note_expected(from, epoch, next, now);
+        if let Some(ack) = head_in(ACK, bytes) {
+            self.repeats.note_expected(ack.from, ack.epoch, ack.number);
+            self.window
+                .note_expected(ack.from, ack.epoch, ack.number, now);
         }
     }
 
     /// Returns whether no peer is so far behind that requests have to wait.
-    pub(crate) fn admits(&self, now: u64) -> bool {
+    pub(crate) fn admits(&self, now: u64) -> bool
+        ensures { result ≡ false → IsBehind now self.now.window }
+    {
         !self.window.is_full(now)
     }
 }

@@ -3,7 +3,7 @@
 ghost use Rattle.std.specs.Prelude.{◌≡◌, ◌↔◌, ◌≤◌, IsTrue, false};
 ghost use Rattle.crsm_port_flow.specs.Went.{IsFrame, NotesOnly, WentLately};
 
-use crate::heads::FrameId;
+use crate::heads::Head;
 use crate::time::is_recent;
 use crsm_base::NoMemory;
 use std::alloc::Global;
@@ -74,7 +74,7 @@ fn paced(again: u32) -> u64
 
 impl SentFrame {
     /// Returns whether this is the frame of this number to this replica.
-    fn is(&self, frame: FrameId) -> bool
+    fn is(&self, frame: Head) -> bool
         ensures { IsTrue result ↔ IsFrame frame.to frame.epoch frame.number self.now }
     {
         self.to == frame.to && self.epoch == frame.epoch && self.number == frame.number
@@ -114,7 +114,7 @@ pub(crate) struct Repeats {
 }
 
 /// Returns the index of a frame among the remembered ones.
-fn place_of(frame: FrameId) -> usize {
+fn place_of(frame: Head) -> usize {
     usize::from(frame.to) % REPLICAS * WINDOW + (frame.number % WINDOW as u64) as usize
 }
 
@@ -153,7 +153,7 @@ impl Repeats {
 
     /// Returns whether a frame may be sent at this reading, and records it if so. A clock that went back holds nothing
     /// back.
-    pub(crate) fn may_go(&mut self, frame: FrameId, now: u64) -> bool
+    pub(crate) fn may_go(&mut self, frame: Head, now: u64) -> bool
         ensures held { result ≡ false → WentLately frame.to frame.epoch frame.number now self.old.last.items }
         ensures noted { NotesOnly frame.to frame.epoch frame.number now self.old.last.items self.new.last.items }
     {
@@ -168,7 +168,12 @@ impl Repeats {
             }
             again = last.again.saturating_add(1);
         }
-        let FrameId { to, epoch, number } = frame;
+        let Head {
+            to,
+            epoch,
+            number,
+            ..
+        } = frame;
         *last = SentFrame {
             to,
             epoch,
@@ -180,7 +185,7 @@ impl Repeats {
     }
 
     /// Returns how a frame stands to the one that its receiver expects.
-    fn need(&self, frame: FrameId) -> Need {
+    fn need(&self, frame: Head) -> Need {
         match self.expected.get(usize::from(frame.to)) {
             Some(expected) => expected.need(frame.epoch, frame.number),
             None => Need::Unknown,

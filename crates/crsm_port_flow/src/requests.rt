@@ -1,24 +1,30 @@
 //! Requests that wait until the node has room for them.
 
-ghost use Rattle.std.specs.Prelude.{◌≡◌, ◌++◌, ◌∷◌, [], None, IfSome, OnOk, OnErr};
+ghost use Rattle.std.specs.Prelude.{◌≡◌, ◌⊎◌, ◌++◌, ◌∷◌, [], true, false, None, IfOk, IfSome, OnOk, OnErr};
+ghost use Rattle.crsm_port_flow.specs.Order.{HasNoRoom};
 ghost use Rattle.crsm_port_flow.specs.Turns.{AreInTime, IsOver, IsUnderWay, TakesFirst};
 
 use crate::commands::{Command, Commands, OPEN_TIME, WAITING_TIME};
+use crate::datagram::Datagram;
 use crate::time::is_recent;
 use crsm_base::NoMemory;
 use std::alloc::Global;
 use std::collections::VecDeque;
 
-/// Number of unanswered commands from which on a node refuses more, and maximum number of requests that wait here.
+/// Number of unanswered commands from which on a node refuses more, and maximum number of requests that wait for it.
 const MOST_OPEN: usize = 64;
 
 const MOST_WAITING: usize = 1_024;
 
-/// A request that waits: its command, the slot of its datagram, and the reading since which it waits.
-#[derive(Clone, Copy)]
+/// Maximum number of requests that are kept. If more than 1,024 wait, the oldest goes up whether or not the node has
+/// room for it, so that the node refuses it.
+pub(crate) const MOST_KEPT: usize = 1_280;
+
+/// A request that waits: its command, its datagram, and the reading since which it waits.
+#[derive(Drop)]
 struct Waiting {
     command: Command,
-    slot: usize,
+    datagram: Datagram,
     since: u64,
 }
 
@@ -35,7 +41,7 @@ pub(crate) enum RequestFate {
     Waits,
     /// The node has it already, or it waits already: it goes no further.
     IsUnderWay,
-    /// So many wait that the node itself has to refuse it.
+    /// So many wait that it is dropped.
     HasNoRoom,
 }
 
@@ -50,10 +56,12 @@ pub(crate) struct Requests {
 
 impl Requests {
     /// Returns an empty record, or `NoMemory` if memory runs out.
-    pub(crate) fn new(alloc: Global) -> Result<Requests, NoMemory> {
+    pub(crate) fn new(alloc: Global) -> Result<Requests, NoMemory>
+        ensures { IfOk result (λ r. r.waiting.items ≡ []) }
+    {
         Ok(Requests {
             commands: Commands::new(alloc)?,
-            waiting: VecDeque::new(alloc),
+            waiting: VecDeque::with_capacity(alloc, MOST_KEPT)?,
             opened: VecDeque::new(alloc),
             open: 0,
         })
@@ -65,7 +73,7 @@ impl Requests {
     {
         if self.commands.is_under_way(command, now) {
             RequestFate::IsUnderWay
-        } else if self.waiting.len() < MOST_WAITING {
+        } else if self.waiting.len() < MOST_KEPT {
             RequestFate::Waits
         } else {
             RequestFate::HasNoRoom
@@ -73,13 +81,18 @@ impl Requests {
     }
 
     /// Appends a request to those that wait. `NoMemory` if memory runs out.
-    pub(crate) fn keep(&mut self, command: Command, slot: usize, now: u64) -> Result<(), NoMemory>
-        ensures last { OnOk result (self.new.waiting.items ≡ self.old.waiting.items ++ (record { command = command; slot = slot; since = now }) ∷ []) }
+    pub(crate) fn keep(
+        &mut self,
+        command: Command,
+        datagram: Datagram,
+        now: u64,
+    ) -> Result<(), NoMemory>
+        ensures last { OnOk result (self.new.waiting.items ≡ self.old.waiting.items ++ (record { command = command; datagram = datagram; since = now }) ∷ []) }
         ensures same { OnErr result (self.new.waiting.items ≡ self.old.waiting.items) }
     {
         self.waiting.push_back(Waiting {
             command,
-            slot,
+            datagram,
             since: now,
         })?;
         let displaced = self.commands.note_waiting(command, now);
@@ -87,30 +100,33 @@ impl Requests {
         Ok(())
     }
 
-    /// Removes the oldest request if it has waited too long, and returns its slot; or `None`.
-    pub(crate) fn take_expired(&mut self, now: u64) -> Option<usize>
-        ensures first { IfSome result (λ slot. (r : Waiting) × (self.old.waiting.items ≡ r ∷ self.new.waiting.items) × (r.slot ≡ slot) × IsOver now r) }
+    /// Removes the oldest request if it has waited too long, and returns its datagram; or `None`.
+    pub(crate) fn take_expired(&mut self, now: u64) -> Option<Datagram>
+        ensures first { IfSome result (λ d. (r : Waiting) × (self.old.waiting.items ≡ r ∷ self.new.waiting.items) × (r.datagram ≡ d) × IsOver now r) }
         ensures none { result ≡ None → (self.new.waiting.items ≡ self.old.waiting.items) × AreInTime now self.new.waiting.items }
     {
-        let oldest = *self.waiting.front()?;
+        let oldest = self.waiting.front()?;
         if is_recent(oldest.since, now, WAITING_TIME) {
             return None;
         }
-        let _ = self.waiting.pop_front();
-        let _ = self.commands.note_gone(oldest.command);
-        Some(oldest.slot)
+        let expired = self.waiting.pop_front()?;
+        let _ = self.commands.note_gone(expired.command);
+        Some(expired.datagram)
     }
 
-    /// Returns whether a request waits and the node has room for it.
+    /// Returns whether a request waits, and the node has room for it or has to refuse it.
     pub(crate) fn has_ready(&mut self, now: u64) -> bool
-        ensures { self.new.waiting ≡ self.old.waiting }
+        ensures same { self.new.waiting ≡ self.old.waiting }
+        ensures waits { result ≡ true → self.new.waiting.items ≡ [] → ⊥ }
+        ensures none { result ≡ false → (self.new.waiting.items ≡ []) ⊎ HasNoRoom self.new }
     {
-        !self.waiting.is_empty() && self.has_room(now)
+        !self.waiting.is_empty() && (self.waiting.len() > MOST_WAITING || self.has_room(now))
     }
 
     /// Returns whether the node has room for one more.
     fn has_room(&mut self, now: u64) -> bool
-        ensures { self.new.waiting ≡ self.old.waiting }
+        ensures same { self.new.waiting ≡ self.old.waiting }
+        ensures none { result ≡ false → HasNoRoom self.new }
     {
         if self.open >= MOST_OPEN {
             self.forget_old(now);
@@ -120,7 +136,8 @@ impl Requests {
 
     /// Removes the oldest commands that were answered or have waited too long for their reply. These no longer count.
     fn forget_old(&mut self, now: u64)
-        ensures { self.new.waiting ≡ self.old.waiting }
+        ensures same { self.new.waiting ≡ self.old.waiting }
+        ensures items { self.new.waiting.items ≡ self.old.waiting.items }
     {
         for _ in 0..self.opened.len() {
             let Some(oldest) = self.opened.front() else {
@@ -137,13 +154,25 @@ impl Requests {
         }
     }
 
-    /// Removes the oldest waiting request, and returns its slot. The node has its command from now on.
-    pub(crate) fn take(&mut self, now: u64) -> Option<usize>
-        ensures first { IfSome result (λ slot. TakesFirst slot self.old.waiting.items self.new.waiting.items) }
+    /// Removes the oldest waiting request, and returns its datagram. The node has its command from now on.
+    pub(crate) fn take(&mut self, now: u64) -> Option<Datagram>
+        ensures first { IfSome result (λ d. TakesFirst d self.old.waiting.items self.new.waiting.items) }
         ensures none { result ≡ None → (self.old.waiting.items ≡ []) × (self.new.waiting.items ≡ []) }
     {
         self.forget_old(now);
-        let Waiting { command, slot, .. } = self.waiting.pop_front()?;
+        let Waiting {
+            command,
+            datagram,
+            ..
+        } = self.waiting.pop_front()?;
+        self.note_opened(command, now);
+        Some(datagram)
+    }
+
+    /// Records that the node has a command from now on.
+    fn note_opened(&mut self, command: Command, now: u64)
+        ensures { self.new.waiting.items ≡ self.old.waiting.items }
+    {
         let opened = Opened {
             command,
             since: now,
@@ -153,7 +182,6 @@ impl Requests {
             self.open = self.open.saturating_add(1);
             self.note_displaced(displaced);
         }
-        Some(slot)
     }
 
     /// Records that an open command was forgotten, if it was.

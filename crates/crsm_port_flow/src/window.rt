@@ -1,6 +1,9 @@
 //! The frames of each link that were sent and are not acknowledged.
 
-use crate::heads::FrameId;
+ghost use Rattle.std.specs.Prelude.{◌≡◌, true};
+ghost use Rattle.crsm_port_flow.specs.Order.{IsBehind};
+
+use crate::heads::Head;
 use crate::time::is_recent;
 
 /// Maximum number of replicas.
@@ -55,8 +58,13 @@ impl Window {
     }
 
     /// Records a frame that is sent.
-    pub(crate) fn note_sent(&mut self, frame: FrameId, now: u64) {
-        let FrameId { to, epoch, number } = frame;
+    pub(crate) fn note_sent(&mut self, frame: Head, now: u64) {
+        let Head {
+            to,
+            epoch,
+            number,
+            ..
+        } = frame;
         if epoch > self.epoch {
             *self = Window::new();
             self.epoch = epoch;
@@ -90,7 +98,9 @@ impl Window {
     }
 
     /// Returns whether a peer is so far behind that requests have to wait.
-    pub(crate) fn is_full(&self, now: u64) -> bool {
+    pub(crate) fn is_full(&self, now: u64) -> bool
+        ensures { result ≡ true → IsBehind now self.now }
+    {
         let members = self.used.min(REPLICAS as u64) + 1;
         let most = OF_EACH * members + MORE;
         is_recent(self.since, now, PATIENCE)

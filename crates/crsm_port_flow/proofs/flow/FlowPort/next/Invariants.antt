@@ -6,7 +6,7 @@ use Rattle.crsm_port_flow.proofs.flow.FlowPort.next.Given as goal
 
 abbrev pub invariant-loop : goal.invariant-loop
 invariant-loop g l = record {
-  gives : NoMore (given_by (g.P.Port.gives l.initial.self.port) l.initial.self.inbound.store.slots.items) (given_by (g.P.Port.gives l.self.port) l.self.inbound.store.slots.items);
+  gives : NoMore (given_by (g.P.Port.gives l.initial.self.port) l.initial.self.inbound) (given_by (g.P.Port.gives l.self.port) l.self.inbound);
   sends : NoMore (g.P.Port.may_send l.initial.self.port) (g.P.Port.may_send l.self.port);
   counts : unknown l.self.faults l.self.losses l.self.empties ≡ unknown l.initial.self.faults l.initial.self.losses l.initial.self.empties;
   acks : l.self.outbound.acks ≡ l.initial.self.outbound.acks;

@@ -1,0 +1,16 @@
+use Rattle.crsm_port_flow.proofs.Flows.{given_after, no_more_of}
+use Rattle.crsm_port_flow.proofs.Keepings.{kept_given}
+use Rattle.crsm_port_flow.specs.Kept.{given_by}
+use Rattle.crsm_port_flow.proofs.flow.FlowPort.first_or_next.Goals as goal
+
+pub returns-then-ready-gt0-clause-given : goal.returns-then-ready-gt0-clause-given
+returns-then-ready-gt0-clause-given g c = kept_given (g.P.Port.gives c.args.self.now.port) c.args.self.now.inbound c.last.new.buf c.last.result c.last.ensures.kept
+
+pub returns-then-ready-gt0-clause-gives : goal.returns-then-ready-gt0-clause-gives
+returns-then-ready-gt0-clause-gives g c =
+    let p = c.args.self.now in
+    let q = c.last.new.self in
+    given_after g.P.Port.gives g.P.Port.may_send (given_by (g.P.Port.gives p.port) p.inbound) p.port q.port p.inbound q.inbound (λ x y h. h) (no_more_of g.P.Port.gives p.port q.port c.last.ensures.port) c.last.ensures.rest
+
+pub returns-then-ready-gt0-clause-goes : goal.returns-then-ready-gt0-clause-goes
+returns-then-ready-gt0-clause-goes g c = λ ready. c.last.ensures.goes (λ none. ready (c.last.ensures.some none))

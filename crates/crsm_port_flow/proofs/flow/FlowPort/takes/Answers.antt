@@ -1,0 +1,48 @@
+use Rattle.std.proofs.Common.{◌≡◌, ◌∙◌, ℕ, List, arith, inl, inr, refl, subst, sym, take}
+use Rattle.std.proofs.lemmas.Grind.{common_steps}
+use Rattle.crsm_port_flow.proofs.Earlies.{ok_gives}
+use Rattle.crsm_port_flow.proofs.Keepings.{clients_kept, peers_kept}
+use Rattle.crsm_port_flow.specs.Kept.{KeepsOnly, kept_in}
+use Rattle.crsm_port_flow.specs.Taken.{Comes, IsTaken}
+use Rattle.crsm_port_flow.specs.declared.inbound.Inbound.{Inbound}
+use Rattle.crsm_port_flow.proofs.flow.FlowPort.takes.Goals as goal
+
+pub returns-in-Open-clause-kept : goal.returns-in-Open-clause-kept
+returns-in-Open-clause-kept g c =
+    let i = c.args.self.now.inbound in
+    let j : Inbound = record i { peers = c.take_in.new.self } in
+    let same : c.in-Some.bytes.now ≡ take c.args.len c.args.self.now.room.items = grind (arith, common_steps, c.in-Some.ensures.lookup, c.deref.ensures.value) in
+    subst (λ (b : List ℕ). KeepsOnly c.args.from b (kept_in i) (kept_in j)) same (peers_kept c.args.from c.in-Some.bytes.now i j refl c.take_in.ensures.only)
+
+pub returns-in-Stranger-clause-kept : goal.returns-in-Stranger-clause-kept
+returns-in-Stranger-clause-kept g c =
+    let i = c.args.self.now.inbound in
+    let j : Inbound = record i { clients = c.take_in-in-Stranger.new.self } in
+    let same : c.in-Some.bytes.now ≡ take c.args.len c.args.self.now.room.items = grind (arith, common_steps, c.in-Some.ensures.lookup, c.deref.ensures.value) in
+    subst (λ (b : List ℕ). KeepsOnly c.args.from b (kept_in i) (kept_in j)) same (clients_kept c.args.from c.in-Some.bytes.now i j refl c.take_in-in-Stranger.ensures.only)
+
+pub returns-in-Open-clause-comes : goal.returns-in-Open-clause-comes
+returns-in-Open-clause-comes g c = λ ok.
+    let s = c.args.self.now in
+    let i = s.inbound in
+    let j : Inbound = record i { peers = c.take_in.new.self } in
+    let same : c.in-Some.bytes.now ≡ take c.args.len s.room.items = grind (arith, common_steps, c.in-Some.ensures.lookup, c.deref.ensures.value) in
+    let taken = ok_gives c.take_in.result (IsTaken c.args.from c.in-Some.bytes.now i.peers j.peers) c.take_in.ensures.taken (sym c.is_ok.ensures.value ∙ ok) in
+    subst (λ (b : List ℕ). Comes c.args.from b s.now s.hearing.peers.items i j) same (inl (c.in-Open.ensures.peer refl, taken, refl))
+
+pub returns-in-Stranger-clause-comes : goal.returns-in-Stranger-clause-comes
+returns-in-Stranger-clause-comes g c = λ yes.
+    let s = c.args.self.now in
+    let i = s.inbound in
+    let j : Inbound = record i { clients = c.take_in-in-Stranger.new.self } in
+    let same : c.in-Some.bytes.now ≡ take c.args.len s.room.items = grind (arith, common_steps, c.in-Some.ensures.lookup, c.deref.ensures.value) in
+    subst (λ (b : List ℕ). Comes c.args.from b s.now s.hearing.peers.items i j) same (inr (inl (c.in-Stranger.ensures.stranger refl, c.take_in-in-Stranger.ensures.taken yes, refl)))
+
+pub returns-in-Closed-clause-comes : goal.returns-in-Closed-clause-comes
+returns-in-Closed-clause-comes g c = λ _. inr (inr (refl, inr (c.in-Closed.ensures.closed refl)))
+
+pub returns-in-Says-clause-comes : goal.returns-in-Says-clause-comes
+returns-in-Says-clause-comes g c = λ _.
+    let s = c.args.self.now in
+    let same : c.in-Some.bytes.now ≡ take c.args.len s.room.items = grind (arith, common_steps, c.in-Some.ensures.lookup, c.deref.ensures.value) in
+    subst (λ (b : List ℕ). Comes c.args.from b s.now s.hearing.peers.items s.inbound s.inbound) same (inr (inr (refl, inl (c.in-Says.ensures.says refl))))

@@ -1,0 +1,8 @@
+use Rattle.std.proofs.Common.{◌∙◌, List, ◌∷◌, ap, refl, sym}
+use Rattle.crsm_port_flow.specs.declared.requests.Waiting.{Waiting}
+use Rattle.crsm_port_flow.proofs.requests.Requests.take.Goals as goal
+
+pub returns-clause-first : goal.returns-clause-first
+returns-clause-first c =
+    let r = c.in_ok-command.field-0 in
+    (r, sym c.forget_old.ensures.items ∙ c.in_ok-command.ensures.items ∙ ap (λ (rs : List Waiting). r ∷ rs) (sym c.note_opened.ensures), refl)

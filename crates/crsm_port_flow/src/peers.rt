@@ -1,0 +1,159 @@
+//! The datagrams that came from peers and are not handed up yet, each in its order.
+
+ghost use Rattle.std.specs.Prelude.{◌≡◌, ◌⊎◌, [], length, IfOk, IfSome, OnOk, None};
+ghost use Rattle.crsm_port.specs.Passing.{NoMore};
+ghost use Rattle.crsm_port_flow.specs.Early.{WaitsAs};
+ghost use Rattle.crsm_port_flow.specs.Heads.{HasHead};
+ghost use Rattle.crsm_port_flow.specs.Kept.{KeepsOnly, of_peers};
+ghost use Rattle.crsm_port_flow.specs.Order.{FirstGoes};
+ghost use Rattle.crsm_port_flow.specs.Taken.{Is, IsMadeReady, IsTaken, StaysReady};
+
+use crate::datagram::{Datagram, Room};
+use crate::early::{Early, FrameFate};
+use crate::heads::{FRAME, Head, head_in};
+use crsm_base::NoMemory;
+use crsm_port::Recv;
+use std::alloc::Global;
+use std::collections::VecDeque;
+
+/// Maximum number of datagrams from peers that are kept, and of their bytes together.
+const MOST_DATAGRAMS: usize = 4_096;
+
+const MOST_BYTES: usize = 16_777_216;
+
+/// Maximum number of frames that have waited for another one.
+const MOST_FOLLOWING: usize = 1_024;
+
+/// The datagrams of peers: those in order, and frames that wait for an earlier one. They have room of their own, so that
+/// nobody else takes it.
+#[derive(Drop)]
+pub(crate) struct FromPeers {
+    room: Room,
+    ready: VecDeque<Datagram>,
+    early: Early,
+}
+
+impl FromPeers {
+    /// Returns a state without datagrams, or `NoMemory` if memory runs out.
+    pub(crate) fn new(alloc: Global) -> Result<FromPeers, NoMemory>
+        ensures { IfOk result (λ p. NoMore (λ _ _. ⊥) (of_peers p)) }
+    {
+        Ok(FromPeers {
+            room: Room::new(alloc, MOST_DATAGRAMS, MOST_BYTES),
+            ready: VecDeque::with_capacity(alloc, MOST_DATAGRAMS)?,
+            early: Early::new(alloc)?,
+        })
+    }
+
+    /// Returns the number of datagrams that can be handed up at once.
+    pub(crate) fn ready(&self) -> usize
+        ensures { result ≡ length self.now.ready.items }
+    {
+        self.ready.len()
+    }
+
+    /// Takes a datagram in, to be handed up in its order. `NoMemory` if memory runs out or there is no room; the
+    /// datagram is then lost, as any may be.
+    pub(crate) fn take_in(&mut self, from: u64, bytes: &[u8], now: u64) -> Result<(), NoMemory>
+        ensures taken { OnOk result (IsTaken from bytes.now self.old self.new) }
+        ensures stays { StaysReady self.old.ready.items self.new.ready.items }
+        ensures only { KeepsOnly from bytes.now (of_peers self.old) (of_peers self.new) }
+    {
+        match head_in(FRAME, bytes) {
+            Some(frame) => self.take_frame(from, bytes, frame, now),
+            None => self.make_ready(from, bytes),
+        }
+    }
+
+    /// Keeps a datagram to be handed up after those that are ready.
+    fn make_ready(&mut self, from: u64, bytes: &[u8]) -> Result<(), NoMemory>
+        ensures ready { OnOk result (IsMadeReady from bytes.now self.old.ready.items self.new.ready.items) }
+        ensures stays { StaysReady self.old.ready.items self.new.ready.items }
+        ensures early { self.new.early ≡ self.old.early }
+        ensures only { KeepsOnly from bytes.now (of_peers self.old) (of_peers self.new) }
+    {
+        let datagram = self.room.put(from, bytes)?;
+        self.ready.push_back(datagram)?;
+        Ok(())
+    }
+
+    /// Takes a frame in. If it is the expected one, those that waited for it follow it.
+    fn take_frame(&mut self, from: u64, bytes: &[u8], frame: Head, now: u64) -> Result<(), NoMemory>
+        requires { HasHead 1 frame.from frame.to frame.epoch frame.number bytes.now }
+        ensures taken { OnOk result (IsTaken from bytes.now self.old self.new) }
+        ensures stays { StaysReady self.old.ready.items self.new.ready.items }
+        ensures only { KeepsOnly from bytes.now (of_peers self.old) (of_peers self.new) }
+    {
+        match self.early.fate(frame) {
+            FrameFate::InOrder => self.take_in_order(from, bytes, frame),
+            FrameFate::Waits => self.take_early(from, bytes, frame, now),
+            FrameFate::IsKept => Ok(()),
+        }
+    }
+
+    /// Makes a frame ready, and those that have waited for it.
+    fn take_in_order(&mut self, from: u64, bytes: &[u8], frame: Head) -> Result<(), NoMemory>
+        ensures ready { OnOk result (IsMadeReady from bytes.now self.old.ready.items self.new.ready.items) }
+        ensures stays { StaysReady self.old.ready.items self.new.ready.items }
+        ensures only { KeepsOnly from bytes.now (of_peers self.old) (of_peers self.new) }
+    {
+        self.make_ready(from, bytes)?;
+        self.early.note_handed_up(frame);
+        self.follow(frame.from)
+    }
+
+    /// Keeps a frame until the one before it has come, and makes it ready as well if none of its link was for a while.
+    fn take_early(&mut self, from: u64, bytes: &[u8], frame: Head, now: u64) -> Result<(), NoMemory>
+        ensures waits { OnOk result ((d : Datagram) × Is from bytes.now d × WaitsAs frame.from frame.number d self.new.early.frames.items) }
+        ensures stays { StaysReady self.old.ready.items self.new.ready.items }
+        ensures only { KeepsOnly from bytes.now (of_peers self.old) (of_peers self.new) }
+    {
+        let datagram = self.room.put(from, bytes)?;
+        self.early.keep(frame, datagram)?;
+        if self.early.tells(frame.from, now) {
+            return self.make_ready(from, bytes);
+        }
+        Ok(())
+    }
+
+    /// Makes the frames ready that have waited for those before them.
+    fn follow(&mut self, sender: u8) -> Result<(), NoMemory>
+        ensures stays { StaysReady self.old.ready.items self.new.ready.items }
+        ensures only { NoMore (of_peers self.old) (of_peers self.new) }
+    {
+        for _ in 0..MOST_FOLLOWING {
+            let Some(datagram) = self.early.take_next(sender) else {
+                return Ok(());
+            };
+            self.ready.push_back(datagram)?;
+        }
+        Ok(())
+    }
+
+    /// Hands up the first datagram that is ready, cut to the buffer, or returns `None`.
+    pub(crate) fn hand_up(&mut self, buf: &mut [u8]) -> Option<Recv>
+        ensures first { IfSome result (FirstGoes self.old self.new buf.old buf.new) }
+        ensures none { result ≡ None → (self.old.ready.items ≡ []) × (self.new.ready.items ≡ []) × (self.new.early ≡ self.old.early) }
+    {
+        let datagram = self.ready.pop_front()?;
+        let got = datagram.hand_up(buf);
+        self.room.take_back(datagram);
+        Some(got)
+    }
+
+    /// Records the sequence number that this replica expects next from another, and makes the frames ready that have
+    /// waited for those before it.
+    pub(crate) fn note_expected(&mut self, expected: Head)
+        ensures stays { StaysReady self.old.ready.items self.new.ready.items }
+        ensures only { NoMore (of_peers self.old) (of_peers self.new) }
+    {
+        let Head {
+            to: of,
+            epoch,
+            number,
+            ..
+        } = expected;
+        self.early.note_expected(of, epoch, number, &mut self.room);
+        let _ = self.follow(of);
+    }
+}
