@@ -10,7 +10,9 @@ ghost use Rattle.crsm_spec.specs.Durable.{KeepsAnswered};
 ghost use Rattle.crsm_delay.specs.Reading.{plans_of};
 ghost use Rattle.crsm_delay.specs.declared.handling.Wanted.{Wanted};
 ghost use Rattle.crsm_port_lines.specs.Exact.{Exact as IsDecided};
+ghost use Rattle.crsm_law_restarts.specs.Laws.{RunsMakeHistories};
 ghost use Rattle.crsm_law_timing.specs.Commits.{CommandsCommitInTime, TimelinesArePossible};
+ghost use Rattle.crsm_node.specs.Running.{devices_of as devices_of_node};
 ghost use Rattle.crsm_world.specs.Schedule.{Schedule, IsSchedule, ShowsAll, acts_of};
 ghost use Rattle.crsm_text_words.specs.Plans.{plan_of};
 ghost use Rattle.crsm_app.specs.Devices.{devices_of};
@@ -25,6 +27,7 @@ use crsm_clock::Clock;
 use crsm_delay::plans_are_exact;
 use crsm_disk::Disk;
 use crsm_io::{Sink, Source};
+use crsm_law_restarts::runs_make_histories;
 use crsm_law_rounds::rounds_are_bounded;
 use crsm_law_runs::{answered_are_kept, decisions_always_agree, runs_are_safe};
 use crsm_law_timing::{commands_commit_in_time, timelines_are_possible};
@@ -140,6 +143,11 @@ pub fn run<I: Source, O: Sink, P: Port, D: Disk, C: Clock, R: Reporter>(
     // If a schedule has led to a calm state, two further calm rounds execute all that was submitted.
     ensures bounded { (s : Schedule) → IsSchedule s → IsBounded (last_world s.replicas (acts_of s)) }
 
+    // The runs of nodes, each over a log file that the one before it may have left, are processes of which every history
+    // is lawful, if nobody sends in a replica's name.
+    ensures nodes { let at = devices_of_node D.meaning P.meaning C.readings O.written O.faults in
+        RunsMakeHistories (λ (s : D × P × C × O). at s.0 s.1 s.2 s.3) }
+
     // The moments written of a plan are those of the protocol: each timeline of a plan is possible, and in it each
     // replica executes the command once, at its moment.
     ensures possible { TimelinesArePossible }
@@ -148,6 +156,7 @@ pub fn run<I: Source, O: Sink, P: Port, D: Disk, C: Clock, R: Reporter>(
     schedules_are_safe();
     plans_are_in_time();
     audits_are_exact();
+    runs_make_histories::<P, D, C, O>();
     match read_words(alloc, words) {
         Ok(order) => do_order(alloc, order, input, output, port, disk, clock, reporter),
         Err(WordsError::Usage) => Status::Usage,
