@@ -13,20 +13,20 @@ use std::alloc::Global;
 /// What a case runs over.
 #[derive(Drop)]
 struct Devices {
-    input: Box<MemSource>,
-    output: Box<MemSink>,
-    port: Box<MemPort>,
-    disk: Box<MemDisk>,
-    clock: Box<ListClock>,
+    input: MemSource,
+    output: MemSink,
+    port: MemPort,
+    disk: MemDisk,
+    clock: ListClock,
 }
 
 /// A run: what it answered and wrote, the port that it sent over, and the disk that it left.
 #[derive(Drop)]
 pub struct Ran {
     pub status: Status,
-    pub output: Box<MemSink>,
-    pub port: Box<MemPort>,
-    pub disk: Box<MemDisk>,
+    pub output: MemSink,
+    pub port: MemPort,
+    pub disk: MemDisk,
 }
 
 /// Returns the word of a header behind this one.
@@ -71,30 +71,24 @@ fn put_datagram(alloc: Global, port: &mut MemPort, line: &str) -> Result<(), Fau
 }
 
 /// Returns the port, at which these datagrams wait, one a line: of `port K` the K-th call fails.
-fn port_of(alloc: Global, header: &str, datagrams: &str) -> Result<Box<MemPort>, Fault> {
+fn port_of(alloc: Global, header: &str, datagrams: &str) -> Result<MemPort, Fault> {
     let fails = numbers_behind(alloc, header, " port ")?;
-    let mut port = Box::new(alloc, MemPort::new(alloc, &fails)?)?;
+    let mut port = MemPort::new(alloc, &fails)?;
     for line in datagrams.lines() {
         put_datagram(alloc, &mut port, line)?;
     }
     Ok(port)
 }
 
-/// Writes a file of these bytes, by two calls.
-fn write_file(alloc: Global, disk: &mut MemDisk, hex: &str) -> Result<(), Fault> {
-    let bytes = hex_of(alloc, hex.as_bytes())?;
-    disk.reserve(2, bytes.len() as u64)?;
-    let _written = disk.write_at(0, bytes.as_slice());
-    let _synced = disk.sync();
-    Ok(())
-}
-
 /// Returns the disk: of `disk K` the K-th call fails, and `file HEX` is its file, which two calls write.
-fn disk_of(alloc: Global, header: &str) -> Result<Box<MemDisk>, Fault> {
+fn disk_of(alloc: Global, header: &str) -> Result<MemDisk, Fault> {
     let fails = numbers_behind(alloc, header, " disk ")?;
-    let mut disk = Box::new(alloc, MemDisk::new(alloc, &fails, None, 0)?)?;
+    let mut disk = MemDisk::new(alloc, &fails, None, 0)?;
     if let Some(hex) = word_behind(header, " file ") {
-        write_file(alloc, &mut disk, hex)?;
+        let bytes = hex_of(alloc, hex.as_bytes())?;
+        disk.reserve(2, bytes.len() as u64)?;
+        let _written = disk.write_at(0, bytes.as_slice());
+        let _synced = disk.sync();
     }
     Ok(disk)
 }
@@ -108,35 +102,18 @@ fn input_of(alloc: Global, header: &str, text: &str, fails: &[u64]) -> Result<Me
     Ok(MemSource::new(alloc, bytes.as_slice(), fails)?)
 }
 
-/// Returns the input of a case: of `read K` the K-th read fails.
-fn failing_input(alloc: Global, header: &str, text: &str) -> Result<Box<MemSource>, Fault> {
-    let reads = numbers_behind(alloc, header, " read ")?;
-    let input = input_of(alloc, header, text, &reads)?;
-    Ok(Box::new(alloc, input)?)
-}
-
-/// Returns the output of a case: of `write K` the K-th write fails.
-fn failing_output(alloc: Global, header: &str) -> Result<Box<MemSink>, Fault> {
-    let writes = numbers_behind(alloc, header, " write ")?;
-    let output = sink_of(alloc, &writes)?;
-    Ok(Box::new(alloc, output)?)
-}
-
-/// Returns the clock of a case: `clock` has its readings.
-fn clock_of(alloc: Global, header: &str) -> Result<Box<ListClock>, Fault> {
-    let readings = numbers_behind(alloc, header, " clock ")?;
-    let clock = ListClock::new(alloc, &readings)?;
-    Ok(Box::new(alloc, clock)?)
-}
-
-/// Returns the devices of a case. Each stands in a box: what a function owns is dropped at each of its ways out.
+/// Returns the devices of a case: of `read K` the K-th read fails, of `write K` the K-th write, and `clock` has the
+/// readings.
 fn devices_of(alloc: Global, header: &str, datagrams: &str, text: &str) -> Result<Devices, Fault> {
+    let reads = numbers_behind(alloc, header, " read ")?;
+    let writes = numbers_behind(alloc, header, " write ")?;
+    let readings = numbers_behind(alloc, header, " clock ")?;
     Ok(Devices {
-        input: failing_input(alloc, header, text)?,
-        output: failing_output(alloc, header)?,
+        input: input_of(alloc, header, text, &reads)?,
+        output: sink_of(alloc, &writes)?,
         port: port_of(alloc, header, datagrams)?,
         disk: disk_of(alloc, header)?,
-        clock: clock_of(alloc, header)?,
+        clock: ListClock::new(alloc, &readings)?,
     })
 }
 
@@ -152,11 +129,11 @@ fn run_over(alloc: Global, words: &[String], devices: Devices) -> Ran {
     let status = run(
         alloc,
         words,
-        &mut *input,
-        &mut *output,
-        &mut *port,
-        &mut *disk,
-        &mut *clock,
+        &mut input,
+        &mut output,
+        &mut port,
+        &mut disk,
+        &mut clock,
         &mut Silent,
     );
     Ran {
@@ -175,7 +152,7 @@ pub fn run_case(alloc: Global, header: &str, text: &str) -> Result<Ran, Fault> {
         None => (header, None),
     };
     let (datagrams, text) = text.split_once("--\n").unwrap_or(("", text));
-    let words = words_of(alloc, words)?;
     let devices = devices_of(alloc, header, datagrams, text)?;
+    let words = words_of(alloc, words)?;
     Ok(run_over(alloc, &words, devices))
 }

@@ -38,38 +38,25 @@ fn file(alloc: Global, disk: &MemDisk) -> Result<Bytes, NoMemory> {
     Ok(text)
 }
 
-fn show_sent<R: AllocGlobal + Print>(rt: &R, port: &MemPort) -> Result<(), Fault> {
-    let sent = sent(rt.alloc(), port)?;
-    Ok(io::writer(rt).write_all(sent.as_slice())?)
-}
-
-fn show_file<R: AllocGlobal + Print>(rt: &R, disk: &MemDisk) -> Result<(), Fault> {
-    let file = file(rt.alloc(), disk)?;
-    Ok(io::writer(rt).write_all(file.as_slice())?)
-}
-
 /// Writes what a run wrote, sent, kept and answered.
 fn show<R: AllocGlobal + Print>(rt: &R, ran: &Ran) -> Result<(), Fault> {
+    let sent = sent(rt.alloc(), &ran.port)?;
+    let file = file(rt.alloc(), &ran.disk)?;
     io::writer(rt).write_all(ran.output.as_slice())?;
-    show_sent(rt, &ran.port)?;
-    show_file(rt, &ran.disk)?;
+    io::writer(rt).write_all(sent.as_slice())?;
+    io::writer(rt).write_all(file.as_slice())?;
     let status = ran.status;
     println!(rt; "status {}, {status}", status.number())?;
     Ok(())
 }
 
-/// Runs a case, and writes its heading and what came of it.
-fn show_case<R: AllocGlobal + Print>(rt: &R, case: &str) -> Result<(), Fault> {
-    let (header, text) = parted(case, "\n")?;
-    println!(rt; "== {header}")?;
-    let ran = run_case(rt.alloc(), header, text)?;
-    show(rt, &ran)
-}
-
 /// Writes what the run of each case wrote, sent, kept and answered.
 pub fn show_all<R: AllocGlobal + Print>(rt: &R, cases: &str) -> Result<(), Fault> {
     for case in cases.split("== ").skip(1) {
-        show_case(rt, case)?;
+        let (header, text) = parted(case, "\n")?;
+        let ran = run_case(rt.alloc(), header, text)?;
+        println!(rt; "== {header}")?;
+        show(rt, &ran)?;
     }
     Ok(())
 }
