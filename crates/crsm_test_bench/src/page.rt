@@ -44,19 +44,17 @@ pub fn read(alloc: Global, size: u32, rounds: u32) -> Result<u64, Fault> {
     Ok(count)
 }
 
-/// How many bytes are written for entries.
-fn bytes_written(alloc: Global, entries: &Entries) -> Result<u64, Fault> {
-    let mut out = Bytes::new(alloc);
-    write_entries(alloc, entries, &mut out)?;
-    Ok(out.as_slice().len() as u64)
-}
-
 /// Writes a page of so many entries again and again, and counts the bytes.
 pub fn write(alloc: Global, size: u32, rounds: u32) -> Result<u64, Fault> {
-    let entries = entries_of(alloc, &bytes_of(alloc, size)?)?;
+    let bytes = bytes_of(alloc, size)?;
+    let Some((entries, _)) = read_entries(alloc, bytes.as_slice())? else {
+        return Err(Fault::NoPage);
+    };
     let mut count = 0u64;
     for _ in 0..rounds {
-        count = count.wrapping_add(bytes_written(alloc, &entries)?);
+        let mut out = Bytes::new(alloc);
+        write_entries(alloc, &entries, &mut out)?;
+        count = count.wrapping_add(out.as_slice().len() as u64);
     }
     Ok(count)
 }
