@@ -1,12 +1,14 @@
 """Commands a second of a store, by closed-loop clients: three nodes of crsm beside other stores on the same machine.
 
     python3 bench/cluster.py PROGRAM [--stores crsm,etcd,zookeeper,redis] [--clients 1,16,64,256] [--seconds S]
-                             [--rounds R] [--install]
+                             [--rounds R] [--members N] [--install]
 
-starts each store in a folder of its own, three members of `crsm`, `etcd` and ZooKeeper and one `redis-server` that syncs
-each command, and has clients put 100 bytes each, one command after another, at all members in turn. Prints the median
-of the rounds: commands a second and their ratio to crsm, the time to an answer in the middle and of the slowest
-hundredth, and the servers' processor time for a command. Every store syncs a command before it answers. A store that is
+starts each store in a folder of its own, three members (or N) of `crsm`, `etcd` and ZooKeeper and one `redis-server`
+that syncs each command, and has clients put 100 bytes each, one command after another, at all members in turn. Prints
+the median of the rounds: commands a second and their ratio to crsm, the time to an answer in the middle and of the
+slowest hundredth, the servers' processor time for a command, what the member with the fewest answers gave of what the
+one with the most did, and how many answers were refusals; and the rates of all rounds. Every store syncs a command
+before it answers. A store that is
 not installed is left out with a word; as root, `--install` gets them. What it starts, it stops.
 """
 
@@ -233,8 +235,16 @@ class ZooKeeper(Stream):
 # ---- the load
 
 
+class Load(NamedTuple):
+    """How long each answered command took, in seconds, how many each member answered, and how many were refused."""
+
+    took: List[float]
+    answered: List[int]
+    refused: int
+
+
 def generate(kind, addresses: List[Address], numbers: List[int], seconds: float, out) -> None:
-    """Runs some clients in this process, and puts out how long each answered command took, in seconds."""
+    """Runs some clients in this process, and puts out what they saw."""
     clients = [kind(addresses[at % len(addresses)], at) for at in numbers]
     selector = selectors.DefaultSelector()
     for it in clients:
@@ -247,6 +257,8 @@ def generate(kind, addresses: List[Address], numbers: List[int], seconds: float,
         it.ask()
         began[it], due[it] = now, now + RESEND
     took: List[float] = []
+    answered, refused = [0] * len(addresses), 0
+    member = {it: at % len(addresses) for it, at in zip(clients, numbers)}
     looked = now
     while now < end:
         for ready, _ in selector.select(BUSY_PAUSE):
@@ -256,10 +268,12 @@ def generate(kind, addresses: List[Address], numbers: List[int], seconds: float,
             if answer:
                 if began[it] >= begin:
                     took.append(now - began[it])
+                    answered[member[it]] += 1
                 it.ask()
                 began[it], due[it] = now, now + RESEND
             elif answer is False:
                 due[it] = now + BUSY_PAUSE
+                refused += now >= begin
         now = time.monotonic()
         if now > looked + BUSY_PAUSE:
             looked = now
@@ -267,11 +281,11 @@ def generate(kind, addresses: List[Address], numbers: List[int], seconds: float,
                 if due[it] <= now:
                     it.again()
                     due[it] = now + RESEND
-    out.put(took)
+    out.put(Load(took, answered, refused))
 
 
-def load(kind, addresses: List[Address], count: int, seconds: float) -> List[float]:
-    """How long each answered command of so many clients took."""
+def load_members(kind, addresses: List[Address], count: int, seconds: float) -> Load:
+    """What so many clients saw."""
     out = multiprocessing.Queue()
     groups = [list(range(at, count, GENERATORS)) for at in range(GENERATORS)]
     processes = [
@@ -279,10 +293,16 @@ def load(kind, addresses: List[Address], count: int, seconds: float) -> List[flo
     ]
     for it in processes:
         it.start()
-    took = [it for _ in processes for it in out.get(timeout=seconds + 60)]
+    loads = [out.get(timeout=seconds + 60) for _ in processes]
     for it in processes:
         it.join()
-    return took
+    took = [seconds for it in loads for seconds in it.took]
+    return Load(took, [sum(each) for each in zip(*(it.answered for it in loads))], sum(it.refused for it in loads))
+
+
+def load(kind, addresses: List[Address], count: int, seconds: float) -> List[float]:
+    """How long each answered command of so many clients took."""
+    return load_members(kind, addresses, count, seconds).took
 
 
 # ---- the stores
@@ -318,21 +338,21 @@ class Store:
             it.wait()
 
 
-def start_crsm(program: str, folder: str) -> Tuple[Store, List[Address]]:
-    """Three nodes of crsm."""
-    store, addresses = Store(folder), free_addresses(3)
+def start_crsm(program: str, folder: str, members: int = 3) -> Tuple[Store, List[Address]]:
+    """Nodes of crsm."""
+    store, addresses = Store(folder), free_addresses(members)
     peers = ",".join(text_of(it) for it in addresses)
-    for at in range(3):
-        store.start(f"crsm-{at}", [program, "node", str(at), "3", "1000000000000", peers])
+    for at in range(members):
+        store.start(f"crsm-{at}", [program, "node", str(at), str(members), "1000000000000", peers])
     return store, addresses
 
 
-def start_etcd(_: str, folder: str) -> Tuple[Store, List[Address]]:
-    """Three members of etcd."""
-    store, addresses = Store(folder), free_addresses(6)
-    clients, peers = addresses[:3], addresses[3:]
+def start_etcd(_: str, folder: str, members: int = 3) -> Tuple[Store, List[Address]]:
+    """Members of etcd."""
+    store, addresses = Store(folder), free_addresses(2 * members)
+    clients, peers = addresses[:members], addresses[members:]
     all_peers = ",".join(f"m{at}=http://{text_of(it)}" for at, it in enumerate(peers))
-    for at in range(3):
+    for at in range(members):
         peer, client = f"http://{text_of(peers[at])}", f"http://{text_of(clients[at])}"
         words = ["etcd", "--name", f"m{at}", "--data-dir", "data", "--log-level", "error", "--initial-cluster", all_peers]
         words += ["--listen-peer-urls", peer, "--initial-advertise-peer-urls", peer]
@@ -341,7 +361,7 @@ def start_etcd(_: str, folder: str) -> Tuple[Store, List[Address]]:
     return store, clients
 
 
-def start_redis(_: str, folder: str) -> Tuple[Store, List[Address]]:
+def start_redis(_: str, folder: str, __: int = 1) -> Tuple[Store, List[Address]]:
     """One server of redis."""
     store, addresses = Store(folder), free_addresses(1)
     words = ["redis-server", "--port", str(addresses[0][1]), "--bind", HOST, "--save", ""]
@@ -349,19 +369,19 @@ def start_redis(_: str, folder: str) -> Tuple[Store, List[Address]]:
     return store, addresses
 
 
-def start_zookeeper(_: str, folder: str) -> Tuple[Store, List[Address]]:
-    """Three members of ZooKeeper, that sync each command as they do by default."""
-    store, addresses = Store(folder), free_addresses(9)
-    clients = addresses[:3]
-    members = "".join(f"server.{at}={HOST}:{addresses[3 + at][1]}:{addresses[6 + at][1]}\n" for at in range(3))
-    for at in range(3):
+def start_zookeeper(_: str, folder: str, members: int = 3) -> Tuple[Store, List[Address]]:
+    """Members of ZooKeeper, that sync each command as they do by default."""
+    store, addresses = Store(folder), free_addresses(3 * members)
+    clients, quorum, votes = (addresses[at * members : (at + 1) * members] for at in range(3))
+    servers = "".join(f"server.{at}={HOST}:{quorum[at][1]}:{votes[at][1]}\n" for at in range(members))
+    for at in range(members):
         data = f"{folder}/data-{at}"
         os.makedirs(data)
         with open(f"{data}/myid", "w", encoding="ascii") as file:
             file.write(str(at))
         with open(f"{data}/zoo.cfg", "w", encoding="ascii") as file:
             file.write(f"tickTime=2000\ninitLimit=10\nsyncLimit=5\ndataDir={data}\nclientPort={clients[at][1]}\n")
-            file.write(f"maxClientCnxns=0\nadmin.enableServer=false\n{members}")
+            file.write(f"maxClientCnxns=0\nadmin.enableServer=false\n{servers}")
         main = "org.apache.zookeeper.server.quorum.QuorumPeerMain"
         store.start(f"zookeeper-{at}", ["java", "-cp", ZOOKEEPER, main, f"{data}/zoo.cfg"])
     return store, clients
@@ -376,12 +396,15 @@ STORES = {
 
 
 class Figure(NamedTuple):
-    """What a run gave: commands a second, seconds in the middle and of the slowest hundredth, processor seconds each."""
+    """What a run gave: commands a second, seconds in the middle and of the slowest hundredth, processor seconds each, what
+    the member with the fewest answers gave of what the one with the most did, and the share of refusals."""
 
     rate: float
     middle: float
     slow: float
     processor: float
+    evenness: float
+    refused: float
 
 
 def await_store(kind, addresses: List[Address]) -> None:
@@ -399,20 +422,27 @@ def await_store(kind, addresses: List[Address]) -> None:
                 raise SystemExit(f"cluster: {kind.__name__} does not answer at {text_of(address)}")
 
 
-def measure(name: str, program: str, folder: str, counts: List[int], seconds: float) -> List[Figure]:
+def figure_of(found: Load, seconds: float, spent: float) -> Figure:
+    """The figure of what clients saw in so many seconds, in which the servers took so many of a processor."""
+    took = sorted(found.took)
+    evenness = min(found.answered) / max(found.answered) if len(took) >= len(found.answered) else 1.0
+    each = spent * seconds / (seconds + WARM_UP) / len(took)
+    refused = found.refused / (found.refused + len(took))
+    return Figure(len(took) / seconds, took[len(took) // 2], took[len(took) * 99 // 100], each, evenness, refused)
+
+
+def measure(name: str, program: str, folder: str, counts: List[int], seconds: float, members: int) -> List[Figure]:
     """A figure for each number of clients."""
     kind, start, _ = STORES[name]
-    store, addresses = start(program, folder)
+    store, addresses = start(program, folder, members)
     try:
         time.sleep(2.0)
         await_store(kind, addresses)
         figures = []
         for count in counts:
             before = store.processor_seconds()
-            took = sorted(load(kind, addresses, count, seconds))
-            spent = store.processor_seconds() - before
-            each = spent * seconds / (seconds + WARM_UP) / len(took)
-            figures.append(Figure(len(took) / seconds, took[len(took) // 2], took[len(took) * 99 // 100], each))
+            found = load_members(kind, addresses, count, seconds)
+            figures.append(figure_of(found, seconds, store.processor_seconds() - before))
         return figures
     finally:
         store.stop()
@@ -423,6 +453,25 @@ def median_of(figures: List[Figure]) -> Figure:
     return Figure(*(statistics.median(it) for it in zip(*figures)))
 
 
+def print_table(counts: List[int], stores: List[str], found: Dict[Tuple[str, int], List[Figure]]) -> None:
+    """Prints the medians, and then the rates of all rounds."""
+    columns = ["clients", "store", "commands/s", "crsm's are times", "middle, ms", "slowest 1 %, ms", "processor us each"]
+    print("| " + " | ".join([*columns, "least of most", "refused"]) + " |")
+    print("|---|---|---|---|---|---|---|---|---|")
+    for count in counts:
+        for name in stores:
+            it = median_of(found[name, count])
+            ratio = median_of(found[stores[0], count]).rate / it.rate
+            print(
+                f"| {count} | {name} | {it.rate:,.0f} | {ratio:.2f} | {it.middle * 1e3:.2f} | {it.slow * 1e3:.1f} "
+                f"| {it.processor * 1e6:.0f} | {it.evenness:.2f} | {it.refused:.1%} |"
+            )
+    for count in counts:
+        for name in stores:
+            rates = ", ".join(f"{it.rate:,.0f} ({it.slow * 1e3:.1f} ms)" for it in found[name, count])
+            print(f"{count} clients, {name}: {rates}")
+
+
 def main() -> int:
     """All stores in each round, then the table."""
     reader = argparse.ArgumentParser(description=__doc__, formatter_class=argparse.RawDescriptionHelpFormatter)
@@ -431,6 +480,7 @@ def main() -> int:
     reader.add_argument("--clients", default=[1, 16, 64, 256], type=lambda text: [int(it) for it in text.split(",")])
     reader.add_argument("--seconds", type=float, default=3.0)
     reader.add_argument("--rounds", type=int, default=3)
+    reader.add_argument("--members", type=int, default=3)
     reader.add_argument("--install", action="store_true", help="installs the stores that are missing, as root")
     words = reader.parse_args()
     if words.install and os.geteuid() == 0:
@@ -446,19 +496,12 @@ def main() -> int:
         for name in stores:
             folder = tempfile.mkdtemp(prefix=f"crsm-{name}-")
             try:
-                for count, figure in zip(words.clients, measure(name, words.program, folder, words.clients, words.seconds)):
+                figures = measure(name, words.program, folder, words.clients, words.seconds, words.members)
+                for count, figure in zip(words.clients, figures):
                     found.setdefault((name, count), []).append(figure)
             finally:
                 shutil.rmtree(folder, ignore_errors=True)
-    print("| clients | store | commands/s | crsm's are times | middle, ms | slowest 1 %, ms | processor us each |")
-    print("|---|---|---|---|---|---|---|")
-    for count in words.clients:
-        for name in stores:
-            it = median_of(found[name, count])
-            ratio = median_of(found[stores[0], count]).rate / it.rate
-            print(
-                f"| {count} | {name} | {it.rate:,.0f} | {ratio:.2f} | {it.middle * 1e3:.2f} | {it.slow * 1e3:.1f} | {it.processor * 1e6:.0f} |"
-            )
+    print_table(words.clients, stores, found)
     return 0
 
 
