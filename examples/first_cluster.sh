@@ -1,5 +1,5 @@
 #!/usr/bin/env bash
-# A first cluster from a fresh clone, in three minutes: three nodes, a client, a kill, an answer all the same.
+# A first cluster from a fresh clone, in two minutes: three nodes, a client, a kill, an answer all the same.
 #
 #   first_cluster.sh [FOLDER [PORT]]   FOLDER (/tmp/crsm-first, where none is given) gets the program and the nodes'
 #                                      files, and the nodes listen at 127.0.0.1:PORT and the two ports above (7000)
@@ -23,7 +23,7 @@ ask() {
 }
 
 if [ ! -x "$program" ]; then
-  say "Compiling the program without proofs: two to three minutes on four processors"
+  say "Compiling the program without proofs: a minute and a half on four processors"
   python3 "$top/tools/unproved.py" "$program" || exit 1
 fi
 trap 'bash "$cluster" stop "$folder/nodes"' EXIT
