@@ -152,6 +152,10 @@ impl<P: Port> Port for ClusterPort<P> {
         self.inner.poll_soon()
     }
 
+    fn wait_long(&mut self) {
+        self.inner.wait_long()
+    }
+
     fn flush(&mut self) {
         self.inner.flush()
     }

@@ -50,6 +50,13 @@ pub trait Port {
         ensures rests { Rests (gives self.old) (gives self.new) (may_send self.old) (may_send self.new) }
     {}
 
+    /// Asks that the next receive waits longer for a datagram, as nothing else is under way. Ports that never wait ignore
+    /// it.
+    fn wait_long(&mut self)
+        ensures same { meaning self.new ≡ meaning self.old }
+        ensures rests { Rests (gives self.old) (gives self.new) (may_send self.old) (may_send self.new) }
+    {}
+
     /// Sends the datagrams that wait for others to the same address, on a port that sends several as one packet. A node
     /// calls it once the datagrams of a group are sent.
     fn flush(&mut self)
@@ -79,6 +86,10 @@ impl<P: Port> Port for &mut P {
 
     fn poll_soon(&mut self) {
         (**self).poll_soon()
+    }
+
+    fn wait_long(&mut self) {
+        (**self).wait_long()
     }
 
     fn flush(&mut self) {

@@ -14,8 +14,28 @@ use std::io::{self, ErrorKind};
 use std::net::{Net, SocketAddr};
 use std::time::Duration;
 
-// Maximum time in milliseconds that a receive waits for a datagram.
+// Maximum times in milliseconds that a receive waits for a datagram.
 const WAIT_MILLIS: u64 = 1;
+
+const LONG_WAIT_MILLIS: u64 = 5;
+
+// Whether the next receive waits for a datagram.
+#[derive(Clone, Copy, PartialEq)]
+enum Wait {
+    Never,
+    Short,
+    Long,
+}
+
+impl Wait {
+    fn time(self) -> Duration {
+        match self {
+            Wait::Never => Duration::from_millis(0),
+            Wait::Short => Duration::from_millis(WAIT_MILLIS),
+            Wait::Long => Duration::from_millis(LONG_WAIT_MILLIS),
+        }
+    }
+}
 
 // A socket, and the poll that waits for datagrams on it.
 #[derive(Drop)]
@@ -23,7 +43,7 @@ struct Inlet {
     socket: UdpSocket,
     poll: Poll,
     events: Events,
-    hurried: bool,
+    wait: Wait,
 }
 
 impl Inlet {
@@ -36,7 +56,7 @@ impl Inlet {
             socket,
             poll,
             events: Events::with_capacity(alloc, 1)?,
-            hurried: false,
+            wait: Wait::Short,
         })
     }
 
@@ -44,12 +64,11 @@ impl Inlet {
     fn receive(&mut self, buf: &mut [u8]) -> io::Result<(usize, SocketAddr)>
         ensures { IfOk result (λ r. r.0 ≤ length buf.new) }
     {
-        let waits = !self.hurried;
-        self.hurried = false;
+        let wait = self.wait;
+        self.wait = Wait::Short;
         match self.socket.recv_from(buf) {
-            Err(e) if waits && e.kind() == ErrorKind::WouldBlock => {
-                let wait = Duration::from_millis(WAIT_MILLIS);
-                self.poll.poll(&mut self.events, Some(wait))?;
+            Err(e) if wait != Wait::Never && e.kind() == ErrorKind::WouldBlock => {
+                self.poll.poll(&mut self.events, Some(wait.time()))?;
                 self.socket.recv_from(buf)
             }
             answer => answer,
@@ -68,7 +87,8 @@ pub struct UdpPort {
 
 impl UdpPort {
     /// Binds a socket to an address (IPv4 x 65,536 + port; with port 0 the system picks a free one), or returns the
-    /// system's error. A receive waits up to a millisecond for a datagram, and does not wait after `poll_soon`.
+    /// system's error. A receive waits up to a millisecond for a datagram, up to 5 after `wait_long`, and not at all after
+    /// `poll_soon`.
     pub fn bind(alloc: Global, net: &impl Net, address: u64) -> io::Result<UdpPort>
         requires { address < 2 ^ 48 }
     {
@@ -150,6 +170,10 @@ impl Port for UdpPort {
     }
 
     fn poll_soon(&mut self) {
-        self.inlet.hurried = true;
+        self.inlet.wait = Wait::Never;
+    }
+
+    fn wait_long(&mut self) {
+        self.inlet.wait = Wait::Long;
     }
 }

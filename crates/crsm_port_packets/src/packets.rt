@@ -364,6 +364,10 @@ impl<P: Port, C: Clock> Port for PacketsPort<P, C> {
         self.is_soon = true;
     }
 
+    fn wait_long(&mut self) {
+        self.port.wait_long();
+    }
+
     fn flush(&mut self) {
         self.let_go();
         greet_each(self.peers.as_mut_slice(), self.now, &mut self.port);

@@ -94,6 +94,15 @@ impl<P: Port> Port for PeerPort<P> {
         self.inner.poll_soon()
     }
 
+    fn wait_long(&mut self)
+        ensures tells { counts_of (P.meaning self.new.inner) ≡ counts_of (P.meaning self.old.inner) }
+        ensures rests { Rests (own_of self.old.peers.items (P.gives self.old.inner)) (own_of self.new.peers.items (P.gives self.new.inner)) (P.may_send self.old.inner) (P.may_send self.new.inner) }
+        ensures below { P.meaning self.new.inner ≡ P.meaning self.old.inner }
+        ensures peers { self.new.peers ≡ self.old.peers }
+    {
+        self.inner.wait_long()
+    }
+
     fn flush(&mut self)
         ensures tells { counts_of (P.meaning self.new.inner) ≡ counts_of (P.meaning self.old.inner) }
         ensures rests { Rests (own_of self.old.peers.items (P.gives self.old.inner)) (own_of self.new.peers.items (P.gives self.new.inner)) (P.may_send self.old.inner) (P.may_send self.new.inner) }
