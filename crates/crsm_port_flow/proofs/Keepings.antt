@@ -142,10 +142,6 @@ pub ok_of_more : (D E : Datagrams) (buffer : List ℕ) (r : Result Recv Failed) 
 ok_of_more D E buffer (Err e) more is = tt
 ok_of_more D E buffer (Ok got) more is = of_more D E buffer got more is
 
-pub some_kept_given : (P : Datagrams) (i : Inbound) (buffer : List ℕ) (r : Option Recv) → IfSome r (IsOf (Cut (kept_in i)) buffer) → IfSome r (IsOf (given_by P i) buffer)
-some_kept_given P i buffer None is = tt
-some_kept_given P i buffer (Some got) is = of_more (given_by P i) (Cut (kept_in i)) buffer got (λ a b w. (w.0, inr w.1)) is
-
 pub cut_more : (D E : Datagrams) → NoMore D E → NoMore (Cut D) (Cut E)
 cut_more D E more a b (rest, is) = (rest, more a (b ++ rest) is)
 

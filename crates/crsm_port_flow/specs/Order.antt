@@ -1,8 +1,8 @@
 -- What goes up next.
-use Rattle.std.specs.Prelude.{◌≡◌, ◌⊎◌, ◌≤◌, ℕ, List, [], ◌∷◌, Option, Some, None, true, false}
+use Rattle.std.specs.Prelude.{◌≡◌, ◌⊎◌, ◌≤◌, ℕ, List, [], ◌∷◌, length, Option, Some, None, true, false}
 use Rattle.crsm_port.specs.declared.port.Recv.{Recv}
 use Rattle.crsm_port_flow.specs.Kept.{GoesUp, packet_of}
-use Rattle.crsm_port_flow.specs.Turns.{TakesFirst}
+use Rattle.crsm_port_flow.specs.Turns.{IsOldestYoung, TakesFirst}
 use Rattle.crsm_port_flow.specs.Went.{IsRecent}
 use Rattle.crsm_port_flow.specs.declared.clients.Clients.{Clients}
 use Rattle.crsm_port_flow.specs.declared.clients.Operate.{Operate}
@@ -36,22 +36,22 @@ NextGoes old new before after got =
     (FirstGoes old.peers new.peers before after got × (new.clients.requests.waiting.items ≡ old.clients.requests.waiting.items) × (new.clients.operate ≡ old.clients.operate))
     ⊎ (IsTheirTurn old × (new.peers ≡ old.peers) × (OldestGoes old.clients new.clients before after got ⊎ LatestGoes old.clients new.clients before after got))
 
--- the node has no room: 64 commands of it have no reply
-abbrev pub HasNoRoom : Requests → Type 0
-HasNoRoom r = 64 ≤ r.open
+-- the node has no room: 64 commands of it have no reply, and the first of them came less than a second ago
+abbrev pub HasNoRoom : ℕ → Requests → Type 0
+HasNoRoom now r = (64 ≤ length r.unanswered.entries) × IsOldestYoung now r.opened.items r.unanswered.entries
 
 -- no request goes up: none waits, or the node has no room
-abbrev pub NoneGoes : Clients → Type 0
-NoneGoes c = (c.requests.waiting.items ≡ []) ⊎ HasNoRoom c.requests
+abbrev pub NoneGoes : ℕ → Clients → Type 0
+NoneGoes now c = (c.requests.waiting.items ≡ []) ⊎ HasNoRoom now c.requests
 
 -- a request for a membership change is not due: it went up less than a second after it came
 abbrev pub IsNotDue : ℕ → Option Operate → Type 0
 IsNotDue now operate = (o : Operate) → operate ≡ Some o → (o.has_gone ≡ true) × IsRecent o.at now 1_000_000
 
--- frames of the newest epoch are on their way, and one was acknowledged, or the first of them sent, less than a second ago
+-- a frame of the newest epoch was acknowledged, or the first of those under way was sent, less than a second ago
 abbrev pub IsBehind : ℕ → Window → Type 0
 IsBehind now w = IsRecent w.since now 1_000_000
 
 -- nothing goes up: no datagram of a peer is ready, and nothing that another asks for goes up
 abbrev pub NothingGoes : ℕ → Inbound → Window → Type 0
-NothingGoes now i w = (i.peers.ready.items ≡ []) × IsNotDue now i.clients.operate × (NoneGoes i.clients ⊎ IsBehind now w)
+NothingGoes now i w = (i.peers.ready.items ≡ []) × IsNotDue now i.clients.operate × (NoneGoes now i.clients ⊎ IsBehind now w)

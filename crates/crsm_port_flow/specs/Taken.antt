@@ -48,7 +48,7 @@ IsMadeWait from bytes now old new = (r : Waiting) × IsRequest bytes × IsComman
 
 -- it is a repeat of a request that waits or has no reply
 abbrev pub IsRepeat : List ℕ → ℕ → Clients → Type 0
-IsRepeat bytes now old = (command : Command) × IsRequest bytes × IsCommandIn command bytes × IsUnderWay command now old.requests.commands.places.items
+IsRepeat bytes now old = (command : Command) × IsRequest bytes × IsCommandIn command bytes × IsUnderWay command now old.requests.waits.entries old.requests.unanswered.entries
 
 -- it is the latest request for a membership change, and was not handed up
 abbrev pub IsLatest : ℕ → List ℕ → ℕ → Clients → Type 0

@@ -1,31 +1,29 @@
 -- Requests that wait for their turn, the oldest first, and commands that are under way.
-use Rattle.std.specs.Prelude.{◌≡◌, ◌++◌, ℕ, List, [], ◌∷◌, All, Contains, Some}
+use Rattle.std.specs.Prelude.{◌≡◌, ◌⊎◌, ◌++◌, ℕ, List, [], ◌∷◌, All, Contains, Some}
 use Rattle.crsm_base.specs.Reading.{u64_at}
 use Rattle.crsm_wire.specs.Marks.{behind_any_mark}
 use Rattle.crsm_port_flow.specs.Went.{IsRecent}
 use Rattle.crsm_port_flow.specs.declared.commands.Command.{Command}
-use Rattle.crsm_port_flow.specs.declared.commands.Known.{Known}
-use Rattle.crsm_port_flow.specs.declared.commands.Stage.{Stage}
 use Rattle.crsm_port_flow.specs.declared.datagram.Datagram.{Datagram}
-use Rattle.crsm_port_flow.specs.declared.commands.Stage.TheVariants.{Absent, Waiting, Open}
+use Rattle.crsm_port_flow.specs.declared.requests.Opened.{Opened}
 use Rattle.crsm_port_flow.specs.declared.requests.Waiting.{Waiting as Request}
 
 -- the bytes name this command
 abbrev pub IsCommandIn : Command → List ℕ → Type 0
 IsCommandIn c bytes = (kind : ℕ) × (fields after rest : List ℕ) × (behind_any_mark bytes ≡ kind ∷ fields) × (u64_at fields ≡ Some (c.client, after)) × (u64_at after ≡ Some (c.number, rest))
 
--- a command waits for less than two seconds, or the node has it for less than one
-abbrev pub IsYoung : ℕ → Stage → Type 0
-IsYoung now Absent = ⊥
-IsYoung now (Waiting since) = IsRecent since now 2_000_000
-IsYoung now (Open since) = IsRecent since now 1_000_000
+-- the command is among these, each with a reading, and less than `span` has passed since its own
+abbrev pub IsSince : Command → ℕ → ℕ → List (Command × ℕ) → Type 0
+IsSince command now span commands = (at : ℕ) × Contains commands (command, at) × IsRecent at now span
 
--- the command is at this stage
-abbrev pub IsStageOf : Command → Stage → List Known → Type 0
-IsStageOf command stage places = (k : Known) × Contains places k × (k.command ≡ command) × (k.stage ≡ stage)
+-- the command waits for less than two seconds, or the node has had it for less than one and has not answered it
+abbrev pub IsUnderWay : Command → ℕ → (waits unanswered : List (Command × ℕ)) → Type 0
+IsUnderWay command now waits unanswered = IsSince command now 2_000_000 waits ⊎ IsSince command now 1_000_000 unanswered
 
-abbrev pub IsUnderWay : Command → ℕ → List Known → Type 0
-IsUnderWay command now places = (k : Known) × Contains places k × (k.command ≡ command) × IsYoung now k.stage
+-- no command counts, or the one that the node received first has been there for less than a second without a reply
+abbrev pub IsOldestYoung : ℕ → List Opened → (unanswered : List (Command × ℕ)) → Type 0
+IsOldestYoung now opened unanswered =
+    (unanswered ≡ []) ⊎ ((o : Opened) × (later : List Opened) × (opened ≡ o ∷ later) × Contains unanswered (o.command, o.since) × IsRecent o.since now 1_000_000)
 
 -- the oldest request leaves, with its datagram
 abbrev pub TakesFirst : Datagram → List Request → List Request → Type 0

@@ -137,7 +137,7 @@ impl Clients {
     pub(crate) fn next(&mut self, now: u64, admits: bool) -> NextAsked
         ensures membership { result ≡ NextAsked.Membership → (o : Operate) × (self.new.operate ≡ Some o) }
         ensures command { result ≡ NextAsked.Command → self.new.requests.waiting.items ≡ [] → ⊥ }
-        ensures nothing { result ≡ NextAsked.Nothing → IsNotDue now self.new.operate × (admits ≡ true → NoneGoes self.new) }
+        ensures nothing { result ≡ NextAsked.Nothing → IsNotDue now self.new.operate × (admits ≡ true → NoneGoes now self.new) }
         ensures waiting { self.new.requests.waiting.items ≡ self.old.requests.waiting.items }
         ensures operate { self.new.operate ≡ self.old.operate }
     {

@@ -31,9 +31,6 @@ const MOST_AHEAD: usize = 1_024;
 /// Maximum number of datagrams that a receive or a look ahead takes in.
 const MOST_TAKEN: usize = 2_048;
 
-/// Number of empty receives of the port below after which an idle node's receive answers that nothing came.
-const IDLE_WAITS: u32 = 5;
-
 /// A port over a port that limits retransmission. A link retransmits its frames at each tick until they are
 /// acknowledged, and a receiver acknowledges each frame and accepts none after a missing one; over a socket with a
 /// short buffer this crowds out new datagrams. Therefore:
@@ -56,7 +53,7 @@ const IDLE_WAITS: u32 = 5;
 /// - the latest request for a membership change is handed up once more after a second;
 /// - each second each peer is told whom this node hears. A peer that says three times that it does not hear this node
 ///   is not heard until it does;
-/// - where nothing but times came and went for 50 milliseconds, a receive asks the inner port five times.
+/// - where nothing but times came and went for 50 milliseconds, the inner port is asked to wait longer.
 ///
 /// A send that is held back is answered as sent, whether it is sent later or not: a network may lose it.
 #[derive(Drop)]
@@ -238,18 +235,16 @@ impl<P: Port, C: Clock> FlowPort<P, C> {
         ensures acks { self.new.outbound.acks ≡ self.old.outbound.acks }
         ensures counts { unknown self.new.faults self.new.losses self.new.empties ≡ unknown self.old.faults self.old.losses self.old.empties }
     {
-        let mut waits = self.waits();
         for _ in 0..MOST_TAKEN {
-            if let Some(got) = self.next_or_more(buf, &mut waits)? {
+            if let Some(got) = self.next_or_more(buf)? {
                 return Ok(got);
             }
         }
         Ok(self.last(buf))
     }
 
-    /// Hands up the next datagram, or `Nothing` if none comes, or takes one in and returns `None`. The port below may
-    /// still be asked `waits` times.
-    fn next_or_more(&mut self, buf: &mut [u8], waits: &mut u32) -> Result<Option<Recv>, Failed>
+    /// Hands up the next datagram, or `Nothing` if none comes, or takes one in and returns `None`.
+    fn next_or_more(&mut self, buf: &mut [u8]) -> Result<Option<Recv>, Failed>
         ensures within { IfOk result (λ got. IfSome got (IsWithin (length buf.old))) }
         ensures given { IfOk result (λ got. IfSome got (IsOf (given_by (P.gives self.old.port) self.old.inbound) buf.new)) }
         ensures gives { NoMore (given_by (P.gives self.old.port) self.old.inbound) (given_by (P.gives self.new.port) self.new.inbound) }
@@ -261,17 +256,12 @@ impl<P: Port, C: Clock> FlowPort<P, C> {
         let admits = self.outbound.admits(self.now);
         match self.inbound.hand_up(buf, self.now, admits, false) {
             Some(got) => Ok(Some(got)),
-            None => self.receive_one(buf, admits, waits),
+            None => self.receive_one(buf, admits),
         }
     }
 
     /// Takes in the next datagram of the port below and returns `None`, or hands up what waits if none comes.
-    fn receive_one(
-        &mut self,
-        buf: &mut [u8],
-        admits: bool,
-        waits: &mut u32,
-    ) -> Result<Option<Recv>, Failed>
+    fn receive_one(&mut self, buf: &mut [u8], admits: bool) -> Result<Option<Recv>, Failed>
         ensures within { IfOk result (λ got. IfSome got (IsWithin (length buf.old))) }
         ensures given { IfOk result (λ got. IfSome got (IsOf (given_by (P.gives self.old.port) self.old.inbound) buf.new)) }
         ensures gives { NoMore (given_by (P.gives self.old.port) self.old.inbound) (given_by (P.gives self.new.port) self.new.inbound) }
@@ -287,34 +277,8 @@ impl<P: Port, C: Clock> FlowPort<P, C> {
                 self.take_in(from, len);
                 Ok(None)
             }
-            Ok(Recv::Nothing) => Ok(self.nothing_came(buf, is_busy, waits)),
+            Ok(Recv::Nothing) => Ok(Some(self.last(buf))),
             Err(Failed) => Err(Failed),
-        }
-    }
-
-    /// Hands up what waits, or `Nothing`; or returns `None` if an idle node's receive goes on.
-    fn nothing_came(&mut self, buf: &mut [u8], is_busy: bool, waits: &mut u32) -> Option<Recv>
-        ensures within { IfSome result (IsWithin (length buf.old)) }
-        ensures kept { IfSome result (IsOf (Cut (kept_in self.old.inbound)) buf.new) }
-        ensures rest { NoMore (kept_in self.old.inbound) (kept_in self.new.inbound) }
-        ensures nothing { IfSome result (λ up. up ≡ Recv.Nothing → NothingGoes self.new.now self.new.inbound self.new.outbound.window) }
-        ensures same { self.new ≡ record self.old { inbound = self.new.inbound } }
-        ensures port { self.new.port ≡ self.old.port }
-    {
-        if *waits > 1 && !is_busy {
-            *waits -= 1;
-            return None;
-        }
-        Some(self.last(buf))
-    }
-
-    /// Returns how often the port below is asked before a receive answers that nothing came: an idle node takes fewer
-    /// ticks, which tell its peers the time each.
-    fn waits(&self) -> u32 {
-        if !self.is_soon && self.quiet.is_idle(self.now) {
-            IDLE_WAITS
-        } else {
-            1
         }
     }
 
@@ -351,6 +315,8 @@ impl<P: Port, C: Clock> FlowPort<P, C> {
         }
         if self.is_soon || is_busy {
             self.port.poll_soon();
+        } else if self.quiet.is_idle(self.now) {
+            self.port.wait_long();
         }
         self.port.recv(&mut self.room)
     }

@@ -45,7 +45,7 @@ impl Inbound {
         ensures turn { result ≢ NextAsked.Nothing → IsTheirTurn self.old }
         ensures membership { result ≡ NextAsked.Membership → self.old.clients.operate ≢ None }
         ensures command { result ≡ NextAsked.Command → self.old.clients.requests.waiting.items ≢ [] }
-        ensures nothing { result ≡ NextAsked.Nothing → is_last ≡ true → self.old.peers.ready.items ≡ [] → IsNotDue now self.new.clients.operate × (admits ≡ true → NoneGoes self.new.clients) }
+        ensures nothing { result ≡ NextAsked.Nothing → is_last ≡ true → self.old.peers.ready.items ≡ [] → IsNotDue now self.new.clients.operate × (admits ≡ true → NoneGoes now self.new.clients) }
     {
         let is_turn = self.since_client >= PEERS_FIRST || is_last && self.peers.ready() == 0;
         if is_turn {
@@ -66,7 +66,7 @@ impl Inbound {
     ) -> Option<Recv>
         ensures goes { IfSome result (NextGoes self.old self.new buf.old buf.new) }
         ensures none { result ≡ None → (self.old.peers.ready.items ≡ []) × (self.new.peers.ready.items ≡ []) }
-        ensures nothing { result ≡ None → is_last ≡ true → IsNotDue now self.new.clients.operate × (admits ≡ true → NoneGoes self.new.clients) }
+        ensures nothing { result ≡ None → is_last ≡ true → IsNotDue now self.new.clients.operate × (admits ≡ true → NoneGoes now self.new.clients) }
         ensures same { result ≡ None → NoMore (kept_in self.old) (kept_in self.new) }
     {
         match self.next_asked(now, admits, is_last) {

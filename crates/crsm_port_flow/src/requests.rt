@@ -1,13 +1,14 @@
 //! Requests that wait until the node has room for them.
 
-ghost use Rattle.std.specs.Prelude.{◌≡◌, ◌⊎◌, ◌++◌, ◌∷◌, [], true, false, None, IfOk, IfSome, OnOk, OnErr};
+ghost use Rattle.std.specs.Prelude.{◌≡◌, ◌⊎◌, ◌++◌, ◌∷◌, [], true, false, None, Contains, IfOk, IfSome, OnOk, OnErr};
 ghost use Rattle.crsm_port_flow.specs.Order.{HasNoRoom};
-ghost use Rattle.crsm_port_flow.specs.Turns.{AreInTime, IsOver, IsUnderWay, TakesFirst};
+ghost use Rattle.crsm_port_flow.specs.Turns.{AreInTime, IsOldestYoung, IsOver, IsSince, IsUnderWay, TakesFirst};
 
-use crate::commands::{Command, Commands, OPEN_TIME, WAITING_TIME};
+use crate::commands::Command;
 use crate::datagram::Datagram;
 use crate::time::is_recent;
 use crsm_base::NoMemory;
+use indexmap::IndexMap;
 use std::alloc::Global;
 use std::collections::VecDeque;
 
@@ -19,6 +20,11 @@ const MOST_WAITING: usize = 1_024;
 /// Maximum number of requests that are kept. If more than 1,024 wait, the oldest goes up whether or not the node has
 /// room for it, so that the node refuses it.
 pub(crate) const MOST_KEPT: usize = 1_280;
+
+/// Times in microseconds for which a request waits at most, and after which one without a reply is no longer counted.
+const WAITING_TIME: u64 = 2_000_000;
+
+const OPEN_TIME: u64 = 1_000_000;
 
 /// A request that waits: its command, its datagram, and the reading since which it waits.
 #[derive(Drop)]
@@ -48,10 +54,13 @@ pub(crate) enum RequestFate {
 /// The requests that wait, the oldest first, and the commands that the node has not answered.
 #[derive(Drop)]
 pub(crate) struct Requests {
-    commands: Commands,
     waiting: VecDeque<Waiting>,
+    // Of each command that waits, the reading since which it does.
+    waits: IndexMap<Command, u64>,
+    // Of each command that the node has not answered, the reading at which it received it.
+    unanswered: IndexMap<Command, u64>,
+    // These in the order in which it received them, with some that are answered.
     opened: VecDeque<Opened>,
-    open: usize,
 }
 
 impl Requests {
@@ -60,24 +69,32 @@ impl Requests {
         ensures { IfOk result (λ r. r.waiting.items ≡ []) }
     {
         Ok(Requests {
-            commands: Commands::new(alloc)?,
             waiting: VecDeque::with_capacity(alloc, MOST_KEPT)?,
+            waits: IndexMap::with_capacity(alloc, MOST_KEPT)?,
+            unanswered: IndexMap::with_capacity(alloc, MOST_OPEN)?,
             opened: VecDeque::new(alloc),
-            open: 0,
         })
     }
 
     /// Returns what becomes of a received request.
     pub(crate) fn fate(&self, command: Command, now: u64) -> RequestFate
-        ensures { result ≡ RequestFate.IsUnderWay → IsUnderWay command now self.now.commands.places.items }
+        ensures { result ≡ RequestFate.IsUnderWay → IsUnderWay command now self.now.waits.entries self.now.unanswered.entries }
     {
-        if self.commands.is_under_way(command, now) {
+        if self.is_under_way(command, now) {
             RequestFate::IsUnderWay
         } else if self.waiting.len() < MOST_KEPT {
             RequestFate::Waits
         } else {
             RequestFate::HasNoRoom
         }
+    }
+
+    /// Returns whether a command waits or has no reply, and not for too long.
+    fn is_under_way(&self, command: Command, now: u64) -> bool
+        ensures { result ≡ true → IsUnderWay command now self.now.waits.entries self.now.unanswered.entries }
+    {
+        is_since(&self.waits, command, now, WAITING_TIME)
+            || is_since(&self.unanswered, command, now, OPEN_TIME)
     }
 
     /// Appends a request to those that wait. `NoMemory` if memory runs out.
@@ -95,8 +112,8 @@ impl Requests {
             datagram,
             since: now,
         })?;
-        let displaced = self.commands.note_waiting(command, now);
-        self.note_displaced(displaced);
+        // Without memory for this its repeats wait, too.
+        let _ = self.waits.insert(command, now);
         Ok(())
     }
 
@@ -110,7 +127,7 @@ impl Requests {
             return None;
         }
         let expired = self.waiting.pop_front()?;
-        let _ = self.commands.note_gone(expired.command);
+        let _ = self.waits.swap_remove(&expired.command);
         Some(expired.datagram)
     }
 
@@ -118,7 +135,7 @@ impl Requests {
     pub(crate) fn has_ready(&mut self, now: u64) -> bool
         ensures same { self.new.waiting ≡ self.old.waiting }
         ensures waits { result ≡ true → self.new.waiting.items ≡ [] → ⊥ }
-        ensures none { result ≡ false → (self.new.waiting.items ≡ []) ⊎ HasNoRoom self.new }
+        ensures none { result ≡ false → (self.new.waiting.items ≡ []) ⊎ HasNoRoom now self.new }
     {
         !self.waiting.is_empty() && (self.waiting.len() > MOST_WAITING || self.has_room(now))
     }
@@ -126,31 +143,41 @@ impl Requests {
     /// Returns whether the node has room for one more.
     fn has_room(&mut self, now: u64) -> bool
         ensures same { self.new.waiting ≡ self.old.waiting }
-        ensures none { result ≡ false → HasNoRoom self.new }
+        ensures none { result ≡ false → HasNoRoom now self.new }
     {
-        if self.open >= MOST_OPEN {
+        if self.unanswered.len() >= MOST_OPEN {
             self.forget_old(now);
         }
-        self.open < MOST_OPEN
+        self.unanswered.len() < MOST_OPEN
     }
 
-    /// Removes the oldest commands that were answered or have waited too long for their reply. These no longer count.
+    /// Forgets the oldest commands that were answered or have waited too long for their reply. These no longer count.
     fn forget_old(&mut self, now: u64)
         ensures same { self.new.waiting ≡ self.old.waiting }
         ensures items { self.new.waiting.items ≡ self.old.waiting.items }
+        ensures oldest { IsOldestYoung now self.new.opened.items self.new.unanswered.entries }
     {
-        for _ in 0..self.opened.len() {
-            let Some(oldest) = self.opened.front() else {
-                return;
-            };
+        while let Some(oldest) = self.opened.front() {
             let Opened { command, since } = *oldest;
-            if self.commands.is_open_since(command, since) {
+            if self.is_open_since(command, since) {
                 if is_recent(since, now, OPEN_TIME) {
                     return;
                 }
-                self.note_answered(command);
+                let _ = self.unanswered.swap_remove(&command);
             }
             let _ = self.opened.pop_front();
+        }
+        // None is listed, so none counts.
+        self.unanswered.clear();
+    }
+
+    /// Returns whether the node received the command at this reading, and has not answered it.
+    fn is_open_since(&self, command: Command, reading: u64) -> bool
+        ensures { result ≡ true → Contains self.now.unanswered.entries (command, reading) }
+    {
+        match self.unanswered.get(&command) {
+            Some(since) => *since == reading,
+            None => false,
         }
     }
 
@@ -165,6 +192,7 @@ impl Requests {
             datagram,
             ..
         } = self.waiting.pop_front()?;
+        let _ = self.waits.swap_remove(&command);
         self.note_opened(command, now);
         Some(datagram)
     }
@@ -178,18 +206,7 @@ impl Requests {
             since: now,
         };
         if self.opened.push_back(opened).is_ok() {
-            let displaced = self.commands.note_open(command, now);
-            self.open = self.open.saturating_add(1);
-            self.note_displaced(displaced);
-        }
-    }
-
-    /// Records that an open command was forgotten, if it was.
-    fn note_displaced(&mut self, was_open: bool)
-        ensures { self.new.waiting ≡ self.old.waiting }
-    {
-        if was_open {
-            self.open = self.open.saturating_sub(1);
+            let _ = self.unanswered.insert(command, now);
         }
     }
 
@@ -197,7 +214,16 @@ impl Requests {
     pub(crate) fn note_answered(&mut self, command: Command)
         ensures { self.new.waiting ≡ self.old.waiting }
     {
-        let was_open = self.commands.note_gone(command);
-        self.note_displaced(was_open);
+        let _ = self.unanswered.swap_remove(&command);
+    }
+}
+
+/// Returns whether the command is among these, and for less than `span`.
+fn is_since(commands: &IndexMap<Command, u64>, command: Command, now: u64, span: u64) -> bool
+    ensures { result ≡ true → IsSince command now span commands.now.entries }
+{
+    match commands.get(&command) {
+        Some(since) => is_recent(*since, now, span),
+        None => false,
     }
 }

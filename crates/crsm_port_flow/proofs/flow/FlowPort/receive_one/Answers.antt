@@ -1,6 +1,6 @@
 use Rattle.std.proofs.Common.{refl, take}
 use Rattle.crsm_port_flow.proofs.Flows.{came_up, given_after, kept_same, no_more_of, no_more_then}
-use Rattle.crsm_port_flow.proofs.Keepings.{asked_same, some_kept_given, some_of_more}
+use Rattle.crsm_port_flow.proofs.Keepings.{asked_same, kept_given, of_more}
 use Rattle.crsm_port_flow.specs.Kept.{given_by, kept_in}
 use Rattle.crsm_port_flow.specs.declared.inbound.Inbound.{Inbound}
 use Rattle.crsm_port_flow.proofs.flow.FlowPort.receive_one.Goals as goal
@@ -27,18 +27,18 @@ returns-in-Ok-Nothing-clause-given g c =
     let mid : Inbound = record p.inbound { clients = c.next-asked.new.self } in
     let stays = no_more_then (kept_in p.inbound) (kept_in mid) (kept_in a.inbound) (asked_same p.inbound mid refl c.next-asked.ensures.waiting c.next-asked.ensures.operate) (kept_same mid a.inbound c.arrived.ensures.inbound) in
     let before = given_after g.P.Port.gives g.P.Port.may_send first p.port a.port p.inbound a.inbound (λ x y h. h) c.arrived.ensures.gives stays in
-    some_of_more first (given_by (g.P.Port.gives a.port) a.inbound) c.nothing_came.new.buf c.nothing_came.result before (some_kept_given (g.P.Port.gives a.port) a.inbound c.nothing_came.new.buf c.nothing_came.result c.nothing_came.ensures.kept)
+    of_more first (given_by (g.P.Port.gives a.port) a.inbound) c.last.new.buf c.last.result before (kept_given (g.P.Port.gives a.port) a.inbound c.last.new.buf c.last.result c.last.ensures.kept)
 
 pub returns-in-Ok-Nothing-clause-gives : goal.returns-in-Ok-Nothing-clause-gives
 returns-in-Ok-Nothing-clause-gives g c =
     let p = c.args.self.now in
     let a = c.arrived.new.self in
-    let n = c.nothing_came.new.self in
+    let n = c.last.new.self in
     let first = given_by (g.P.Port.gives p.port) p.inbound in
     let mid : Inbound = record p.inbound { clients = c.next-asked.new.self } in
     let stays = no_more_then (kept_in p.inbound) (kept_in mid) (kept_in a.inbound) (asked_same p.inbound mid refl c.next-asked.ensures.waiting c.next-asked.ensures.operate) (kept_same mid a.inbound c.arrived.ensures.inbound) in
     let before = given_after g.P.Port.gives g.P.Port.may_send first p.port a.port p.inbound a.inbound (λ x y h. h) c.arrived.ensures.gives stays in
-    given_after g.P.Port.gives g.P.Port.may_send first a.port n.port a.inbound n.inbound before (no_more_of g.P.Port.gives a.port n.port c.nothing_came.ensures.port) c.nothing_came.ensures.rest
+    given_after g.P.Port.gives g.P.Port.may_send first a.port n.port a.inbound n.inbound before (no_more_of g.P.Port.gives a.port n.port c.last.ensures.port) c.last.ensures.rest
 
 pub returns-in-Err-clause-gives : goal.returns-in-Err-clause-gives
 returns-in-Err-clause-gives g c =
