@@ -1,11 +1,12 @@
 -- Whether the records of a proposer's own acceptance fit.
-use Rattle.std.proofs.Common.{◌≡◌, ℕ, List, ◌∷◌, refl, sym, ◌∙◌, ap, Bool, true, false, length}
-use Rattle.std.specs.Prelude.{◌&&◌, not, nat_le, nat_lt, Some}
-use Rattle.std.proofs.lemmas.Bool.{false≢true}
+use Rattle.std.proofs.Common.{◌≡◌, ℕ, ◌+◌, List, ◌∷◌, refl, sym, ◌∙◌, ap, Bool, true, false, length}
+use Rattle.std.specs.Prelude.{◌&&◌, ◌==◌, not, nat_le, nat_lt, Some}
+use Rattle.std.specs.Option.{option_map_or}
+use Rattle.std.proofs.lemmas.Bool.{eq-eqb, false≢true}
 use Rattle.crsm_base.specs.Order.{ballot_lt}
 use Rattle.crsm_base.specs.Spelling.{FitsDecision}
 use Rattle.crsm_spec.specs.Types.{Ballot, Decision, Rec}
-use Rattle.crsm_spec.specs.Log.{Log, known, decision, executed, promised}
+use Rattle.crsm_spec.specs.Log.{Log, known, decision, executed, promised, accepted}
 use Rattle.crsm_spec.specs.Fits.{fits, booted, can_be_members}
 use Rattle.crsm_spec.specs.Quorum.{spec_decided, has_majority}
 use Rattle.crsm_spec.specs.Replica.{Coordinator, spec_of}
@@ -62,6 +63,23 @@ pub kept_learns : (x : Draft) (i : ℕ) (b : Ballot) (d : Decision) → booted x
 kept_learns x i b d on f fit =
     learn_fits d (keep (Rec.Accept i b d) x) (kept_booted x i b d on) f ∙ ap (λ l. (learnt d (keep (Rec.Accept i b d) x)).fitting && tail_goes_on d l) (kept_executed x i b d)
     ∙ ap (λ p. p && tail_goes_on d (executed x.replica.log)) (learnt_fitting d (keep (Rec.Accept i b d) x) ∙ and_first _ _ fit ∙ kept_decides x i b d on)
+
+-- ---- the instance of an acceptance
+
+twice : (a b c : Bool) → c ≡ true → ((a && b) && b) ≡ ((a && c) && b)
+twice false b c h = refl
+twice true b false h = absurd (false≢true h)
+twice true true true h = refl
+twice true false true h = refl
+
+-- an acceptance fits for the epoch of its decision where it fits for the next instance
+pub fits_next : (x : Draft) (b : Ballot) (d : Decision) →
+    fits x.replica.me x.replica.n x.replica.log (Rec.Accept d.epoch b d) ≡ fits x.replica.me x.replica.n x.replica.log (Rec.Accept (instance x) b d)
+unfolding fits instance
+fits_next x b d =
+    let next = known x.replica.log + 1 in
+    ap (λ p. ((p && not (ballot_lt b (promised x.replica.log))) && option_map_or (λ a. ballot_lt a.0 b) (accepted x.replica.log) true) && nat_le d.base_len (length (executed x.replica.log)))
+    (twice (booted x.replica.log) (d.epoch == next) (next == next) (eq-eqb next next refl))
 
 -- ---- all cases
 

@@ -1,9 +1,11 @@
 -- A proposal: the proposer's own acceptance, and the messages sent.
-use Rattle.std.proofs.Common.{◌≡◌, ℕ, ◌+◌, ◌<◌, List, ◌∷◌, refl, sym, ◌∙◌, ap, subst, Bool, true, false, length, map}
-use Rattle.std.specs.Prelude.{◌&&◌, ◌^◌, not, nat_le, filter, Option, Some, None}
+use Rattle.std.proofs.Common.{◌≡◌, ℕ, ◌+◌, List, ◌∷◌, refl, sym, ◌∙◌, ap, Bool, true, false, length, map}
+use Rattle.std.specs.Prelude.{◌&&◌, not, nat_le, filter, Option, Some, None}
+use Rattle.std.proofs.lemmas.Bool.{eqb-true, false≢true}
 use Rattle.std.proofs.lemmas.Option.{none-some, same_Some}
 use Rattle.crsm_base.specs.Order.{ballot_lt}
 use Rattle.crsm_spec.specs.Types.{Ballot, Decision, Rec, Control}
+use Rattle.crsm_spec.specs.Fits.{fits}
 use Rattle.crsm_spec.specs.Lists.{has}
 use Rattle.crsm_spec.specs.Log.{known, decision, spec, executed, promised, active}
 use Rattle.crsm_spec.specs.Paxos.{Answer}
@@ -13,7 +15,8 @@ use Rattle.crsm_spec.specs.Draft.{Draft, keep, noting, send_to_each, send_to_all
 use Rattle.crsm_spec.specs.Coordinate.{instance, learn, has_accepted, count_acceptor, accept_own, send_ask, send_proposal}
 use Rattle.crsm_spec.specs.Step.{ask_all}
 use Rattle.crsm_replica_coordinator.specs.Coordinator.{IsOwn, epoch_of, counted_of, proposal_of}
-use Rattle.crsm_replica_reconfigure.proofs.DraftLemmas.{when_yes, when_no, kept_monotone}
+use Rattle.crsm_replica_reconfigure.specs.Stages.{round_of}
+use Rattle.crsm_replica_reconfigure.proofs.DraftLemmas.{when_yes, when_no, keep_fitting, kept_monotone}
 use Rattle.crsm_replica_reconfigure.proofs.ChoiceLemmas.{chosen_fitting, chosen_coordinator, noted_fitting}
 
 -- ---- the own acceptance
@@ -57,10 +60,21 @@ pub kept_me : (rec : Rec) (x : Draft) → (keep rec x).replica.me ≡ x.replica.
 unfolding keep
 kept_me rec x = refl
 
--- the next instance is a number if a decision for it has an encoding
-pub own_small : (x : Draft) (me n : ℕ) (own : Decision) (i : ℕ) → IsOwn me n (decision x.replica.log) own → i ≡ instance x → i < 2 ^ 64
+-- a decision of the replica's own is for the next instance
+pub own_next : (x : Draft) (me n : ℕ) (own : Decision) → IsOwn me n (decision x.replica.log) own → own.epoch ≡ instance x
 unfolding instance known epoch_of
-own_small x me n own i o e = subst (λ m. m < 2 ^ 64) (o.next ∙ sym e) o.spelt.epoch
+own_next x me n own o = o.next
+
+halves : (a b : Bool) → (a && b) ≡ true → (a ≡ true) × (b ≡ true)
+halves true b h = (refl, h)
+halves false b h = absurd (false≢true h)
+
+-- and so is one that is accepted for it
+pub accepted_next : (x : Draft) (b : Ballot) (d : Decision) → (keep (Rec.Accept (instance x) b d) x).fitting ≡ true → d.epoch ≡ instance x
+unfolding fits instance
+accepted_next x b d h =
+    let all = (halves _ _ (sym (keep_fitting (Rec.Accept (known x.replica.log + 1) b d) x) ∙ h)).1 in
+    eqb-true d.epoch (known x.replica.log + 1) (halves _ _ (halves _ _ (halves _ _ (halves _ _ all).0).0).0).1
 
 pub none_proposed : {A : Type 0} (o : Option A) (a : A) → o ≡ Some a → o ≡ None → ⊥
 none_proposed o a h i = none-some a (sym i ∙ h)
@@ -106,6 +120,23 @@ none_told (Coordinator.Preparing b own answers) x h = refl
 none_told (Coordinator.Proposing b own value acceptors) x h = absurd (none-some (b, value) (sym h))
 none_told (Coordinator.Preempted own seen) x h = refl
 
+-- a coordinator without a round proposes nothing
+pub no_round : (m : Coordinator) → round_of m ≡ None → proposal_of m ≡ None
+unfolding round_of proposal_of
+no_round Coordinator.Idle h = refl
+no_round (Coordinator.Collecting ms pages) h = refl
+no_round (Coordinator.Preparing b own answers) h = refl
+no_round (Coordinator.Proposing b own value acceptors) h = absurd (none-some (own.epoch, b) (sym h))
+no_round (Coordinator.Preempted own seen) h = refl
+
+-- the instance of a proposal is that of the own decision
+pub round_is : (b : Ballot) (own value : Decision) (acceptors : List ℕ) (i : ℕ) (c : Ballot) → round_of (Coordinator.Proposing b own value acceptors) ≡ Some (i, c) → i ≡ own.epoch
+unfolding round_of
+round_is b own value acceptors i c h = ap (λ (p : ℕ × Ballot). p.0) (sym (same_Some _ _ h))
+
+pub rounds_same : (o : Option (ℕ × Ballot)) (i j : ℕ) (b c : Ballot) → o ≡ Some (i, b) → o ≡ Some (j, c) → (i ≡ j) × (b ≡ c)
+rounds_same o i j b c h e = (ap (λ (p : ℕ × Ballot). p.0) (same_Some _ _ (sym h ∙ e)), ap (λ (p : ℕ × Ballot). p.1) (same_Some _ _ (sym h ∙ e)))
+
 pub active_asks : (x : Draft) → active x.replica.log ≡ true → ask_all x ≡ x
 unfolding ask_all
 active_asks x h = when_yes _ _ _ h
@@ -113,7 +144,3 @@ active_asks x h = when_yes _ _ _ h
 pub all_asked : (x : Draft) (e done : ℕ) → active x.replica.log ≡ false → e ≡ known x.replica.log → done ≡ length (executed x.replica.log) → send_to_all (Control.Retrieve e done) x ≡ ask_all x
 unfolding ask_all retrieve
 all_asked x e done h k l = ap (λ m. send_to_all (Control.Retrieve m done) x) k ∙ ap (λ m. send_to_all (Control.Retrieve (known x.replica.log) m) x) l ∙ sym (when_no _ _ _ h)
-
-pub instance_is : (x : Draft) (e : ℕ) → e ≡ known x.replica.log → e + 1 ≡ instance x
-unfolding instance
-instance_is x e h = ap (λ m. m + 1) h

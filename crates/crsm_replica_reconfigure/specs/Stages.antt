@@ -1,5 +1,5 @@
 -- For each draft that a state stands for and whose coordinator has a given stage.
-use Rattle.std.specs.Prelude.{◌≡◌, ℕ, ◌+◌, Bool, true, false, ◌==◌, ◌&&◌, ◌||◌, not, List, ◌∷◌, [], ◌++◌, filter, map}
+use Rattle.std.specs.Prelude.{◌≡◌, ℕ, ◌+◌, Bool, true, false, ◌==◌, ◌&&◌, ◌||◌, not, List, ◌∷◌, [], ◌++◌, filter, map, Option, None, Some}
 use Rattle.crsm_base.specs.Messages.{FitsVote}
 use Rattle.crsm_base.specs.Spelling.{FitsBallot, FitsDecision, FitsOption}
 use Rattle.crsm_spec.specs.Types.{Ballot, Decision}
@@ -76,6 +76,14 @@ WhereAnswerIsLast state k held P =
     (x : Draft) (b : Ballot) (own : Decision) (answers : List (Answer Decision)) →
     ReplicaStands state x → x.replica.coordinator ≡ CoordinatorOnPaper.Preparing b own answers → FitsOption FitsVote held →
     has_majority (spec_of x.replica) (map (λ f. f.replica) (answers ++ answer_of k held ∷ [])) ≡ true → P x b own answers
+
+-- ---- it prepares or proposes
+
+-- the instance for which its own decision is, and its ballot
+unfoldable pub round_of : CoordinatorOnPaper → Option (ℕ × Ballot)
+round_of (CoordinatorOnPaper.Preparing b own answers) = Some (own.epoch, b)
+round_of (CoordinatorOnPaper.Proposing b own value acceptors) = Some (own.epoch, b)
+round_of _ = None
 
 -- ---- it proposes
 

@@ -15,7 +15,7 @@ ghost use Rattle.crsm_replica_reconfigure.specs.Stages.{CoordinatesAs, WhereNext
 use crate::fitting::fits_own;
 use crate::promising::promise;
 use crate::renewing::accept_and_send;
-use crate::sending::{next_instance, send_ask};
+use crate::sending::send_ask;
 use crsm_base::{Ballot, Decision, NoMemory, ballot_precedes};
 use crsm_replica::{ReplicaState, states_are_sound};
 use crsm_replica_coordinator::Coordinator;
@@ -58,9 +58,9 @@ pub fn begin_proposing(
         return Ok(());
     }
     let is_alone = is_alone(state)?;
+    let instance = own.epoch;
     let coordinator = asking(state, own, top)?;
     let ballot = above(top, state.me());
-    let instance = next_instance(state)?;
     promise(state, instance, ballot)?;
     state.set_coordinator(coordinator);
     if is_alone {

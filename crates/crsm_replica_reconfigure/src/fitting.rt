@@ -4,12 +4,11 @@ ghost use Rattle.std.specs.Prelude.{◌≡◌, IfOk};
 ghost use Rattle.crsm_base.specs.declared.Rec.{Rec as RecOnPaper};
 ghost use Rattle.crsm_spec.specs.Fits.{fits};
 ghost use Rattle.crsm_spec.specs.Draft.{Draft};
-ghost use Rattle.crsm_spec.specs.Coordinate.{accept_own};
+ghost use Rattle.crsm_spec.specs.Coordinate.{accept_own, instance};
 ghost use Rattle.crsm_replica.specs.Replica.{ReplicaStands};
 ghost use Rattle.crsm_replica_reconfigure.specs.Stages.{WhereOwnVote};
 
 use crate::proposing::is_due;
-use crate::sending::next_instance;
 use crate::tails::tail_goes_on;
 use crsm_base::{Ballot, Decision, NoMemory, Rec, ballot_precedes};
 use crsm_replica::{ReplicaState, states_are_sound};
@@ -33,8 +32,7 @@ pub fn fits_own(
     if !is_due {
         return Ok(true);
     }
-    let instance = next_instance(state)?;
-    let accepts = would_accept(state, instance, ballot, value)?;
+    let accepts = would_accept(state, ballot, value)?;
     if !accepts {
         return Ok(false);
     }
@@ -46,17 +44,13 @@ pub fn fits_own(
     Ok(decides & goes_on)
 }
 
-fn would_accept(
-    state: &ReplicaState,
-    instance: u64,
-    ballot: Ballot,
-    value: &Decision,
-) -> Result<bool, NoMemory>
-    ensures { IfOk result (λ fit. (x : Draft) → ReplicaStands state.now x → fit ≡ fits x.replica.me x.replica.n x.replica.log (RecOnPaper.Accept instance ballot value.now)) }
+/// Returns whether the acceptance of this proposal would fit. It does only for the epoch of its decision.
+fn would_accept(state: &ReplicaState, ballot: Ballot, value: &Decision) -> Result<bool, NoMemory>
+    ensures { IfOk result (λ fit. (x : Draft) → ReplicaStands state.now x → fit ≡ fits x.replica.me x.replica.n x.replica.log (RecOnPaper.Accept (instance x) ballot value.now)) }
 {
     let decision = value.copy(state.alloc())?;
     let rec = Rec::Accept {
-        instance,
+        instance: value.epoch,
         ballot,
         decision,
     };

@@ -9,7 +9,6 @@ ghost use Rattle.crsm_replica_reconfigure.specs.Stages.{WhereProposing, CanAccep
 
 use crate::counting::count_vote;
 use crate::promising::accept;
-use crate::sending::next_instance;
 use crsm_base::{Ballot, Decision, NoMemory, ballot_precedes};
 use crsm_replica::{ReplicaState, states_are_sound};
 
@@ -33,8 +32,7 @@ pub fn accept_own(state: &mut ReplicaState) -> Result<(), NoMemory>
     if !is_due {
         return Ok(());
     }
-    let instance = next_instance(state)?;
-    accept(state, instance, ballot, &value)?;
+    accept(state, value.epoch, ballot, &value)?;
     let me = state.me();
     count_vote(state, me)?;
     Ok(())

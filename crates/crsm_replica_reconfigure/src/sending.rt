@@ -2,26 +2,26 @@
 
 ghost use Rattle.std.specs.Prelude.{◌≡◌, IfOk};
 ghost use Rattle.crsm_spec.specs.Replica.{Coordinator as CoordinatorOnPaper};
-ghost use Rattle.crsm_spec.specs.Draft.{Draft};
-ghost use Rattle.crsm_spec.specs.Coordinate.{instance, send_ask, send_proposal};
+ghost use Rattle.crsm_spec.specs.Coordinate.{send_ask, send_proposal};
 ghost use Rattle.crsm_spec.specs.Step.{ask_all};
 ghost use Rattle.crsm_replica.specs.Replica.{ReplicaStands, Makes};
-ghost use Rattle.crsm_replica_reconfigure.specs.Stages.{WherePreparing};
+ghost use Rattle.crsm_replica_coordinator.specs.Coordinator.{WhereStands as WhereCoordinates};
+ghost use Rattle.crsm_replica_reconfigure.specs.Stages.{WherePreparing, round_of};
 
-use crsm_base::{Control, NoMemory, never};
+use crsm_base::{Ballot, Control, NoMemory};
 use crsm_replica::{ReplicaState, states_are_sound};
+use crsm_replica_coordinator::Coordinator;
 
 /// Asks each counted replica that has not promised for its promise. `NoMemory` if memory runs out.
 pub fn send_ask(state: &mut ReplicaState) -> Result<(), NoMemory>
     ensures { IfOk result (λ _. WherePreparing state.old (λ x b own answers. ReplicaStands state.new (send_ask (CoordinatorOnPaper.Preparing b own answers) x))) }
 {
-    let found = state.coordinator().ballot();
-    let Some(ballot) = found else {
+    let found = round_in(state.coordinator());
+    let Some((instance, ballot)) = found else {
         return Ok(());
     };
     let others = state.others()?;
     let missing = state.coordinator().missing(state.alloc(), &others)?;
-    let instance = next_instance(state)?;
     let control = Control::P1a { instance, ballot };
     state.send_to_each(&missing, &control)?;
     Ok(())
@@ -32,13 +32,16 @@ pub fn send_ask(state: &mut ReplicaState) -> Result<(), NoMemory>
 pub fn send_proposal(state: &mut ReplicaState) -> Result<(), NoMemory>
     ensures { Makes (λ x. send_proposal x.replica.coordinator x) state.old result state.new }
 {
+    let round = round_in(state.coordinator());
+    let Some((instance, _)) = round else {
+        return Ok(());
+    };
     let found = state.coordinator().proposal(state.alloc())?;
     let Some((ballot, decision)) = found else {
         return Ok(());
     };
     let others = state.others()?;
     let missing = state.coordinator().missing(state.alloc(), &others)?;
-    let instance = next_instance(state)?;
     let control = Control::P2a {
         instance,
         ballot,
@@ -65,14 +68,13 @@ pub fn ask_all(state: &mut ReplicaState) -> Result<(), NoMemory>
     Ok(())
 }
 
-/// Returns the number of the instance that is decided next: the known epoch plus 1. `NoMemory` at the last epoch, which
-/// no replica knows.
-pub fn next_instance(state: &ReplicaState) -> Result<u64, NoMemory>
-    ensures { IfOk result (λ i. (x : Draft) → ReplicaStands state.now x → i ≡ instance x) }
+/// Returns the instance that the coordinator's own decision is for, and its ballot, or `None` unless it asks for
+/// promises or proposes.
+fn round_in(coordinator: &Coordinator) -> Option<(u64, Ballot)>
+    ensures { WhereCoordinates coordinator.now (λ me n known m. result ≡ round_of m) }
 {
-    let known = state.known();
-    if known == u64::MAX {
-        return Err(never());
+    match coordinator {
+        Coordinator::Proposing(proposer) => Some((proposer.own().epoch, proposer.ballot())),
+        _ => None,
     }
-    Ok(known + 1)
 }

@@ -1,6 +1,6 @@
 //! The tests whether the rest of a decision's tail follows the executed entries.
 
-ghost use Rattle.std.specs.Prelude.{◌≡◌, ◌≢◌, ◌-◌, [], ◌++◌, true, length, IfOk, slice_get};
+ghost use Rattle.std.specs.Prelude.{◌≡◌, ◌≢◌, ◌<◌, ◌+◌, ◌-◌, ◌^◌, [], ◌++◌, true, length, IfOk, slice_get};
 ghost use Rattle.std.specs.Option.{option_map_or, option_copied};
 ghost use Rattle.crsm_base.specs.Order.{entry_lt};
 ghost use Rattle.crsm_spec.specs.Log.{Log, executed, decision};
@@ -10,7 +10,7 @@ ghost use Rattle.std.specs.Prelude.{ℕ};
 ghost use Rattle.crsm_replica.specs.Replica.{ReplicaStands};
 ghost use Rattle.crsm_replica_reconfigure.specs.Rules.{tail_goes_on, rest_goes_on, first_left};
 
-use crsm_base::{Decision, Entries, Entry, NoMemory, entry_precedes, never};
+use crsm_base::{Decision, Entries, Entry, NoMemory, entry_precedes};
 use crsm_ledger::Ledger;
 use crsm_replica::ReplicaState;
 
@@ -19,7 +19,7 @@ use crsm_replica::ReplicaState;
 pub fn tail_goes_on(state: &ReplicaState, decision: &Decision) -> Result<bool, NoMemory>
     ensures { IfOk result (λ b. (x : Draft) → ReplicaStands state.now x → b ≡ tail_goes_on decision.now (executed x.replica.log)) }
 {
-    let Some(entry) = first_left(decision, state.executed_len()) else {
+    let Some(entry) = first_left(decision, state.executed_len(), 0) else {
         return Ok(true);
     };
     let is_behind = stands_behind(state.ledger(), entry)?;
@@ -36,33 +36,30 @@ pub fn rest_goes_on(state: &ReplicaState, entries: &Entries) -> Result<bool, NoM
         return Ok(true);
     };
     let entries = entries.as_slice();
-    let more = entries.len() as u64;
-    let before = state.executed_len();
-    // No memory holds that many.
-    if before > u64::MAX - more {
-        return Err(never());
-    }
-    let done = before + more;
-    let Some(entry) = first_left(&decision, done) else {
+    let Some(entry) = first_left(&decision, state.executed_len(), entries.len()) else {
         return Ok(true);
     };
     let is_behind = ends_before(entries, entry);
     Ok(is_behind)
 }
 
-/// Returns the first entry of the tail that is not among the `done` executed ones, or `None` if the base is not
-/// executed or no entry is left.
+/// Returns the first entry of the tail that is not among the `done` executed ones and the `more` after them, or `None`
+/// if these do not contain the base or no entry is left.
 #[tactic(auto, unfolding(crate::specs::Rules::first_left))]
-fn first_left(decision: &Decision, done: u64) -> Option<&Entry>
-    ensures { option_copied result ≡ first_left decision.now done }
+fn first_left(decision: &Decision, done: u64, more: usize) -> Option<&Entry>
+    requires { more < 2 ^ 63 }
+    ensures { option_copied result ≡ first_left decision.now (done + more) }
 {
+    let tail = decision.tail.as_slice();
     if done < decision.base_len {
-        return None;
+        let missing = decision.base_len - done;
+        if (more as u64) < missing {
+            return None;
+        }
+        return tail.get((more as u64 - missing) as usize);
     }
-    decision
-        .tail
-        .as_slice()
-        .get((done - decision.base_len) as usize)
+    let start = (done - decision.base_len).min(tail.len() as u64);
+    tail.get(start as usize + more)
 }
 
 /// Returns whether the entry is after the last executed one, if any.

@@ -14,6 +14,7 @@ use Rattle.crsm_replica.specs.Replica.{ReplicaStands}
 use Rattle.crsm_replica_reconfigure.proofs.DraftLemmas.{was_whole}
 use Rattle.crsm_replica_reconfigure.proofs.BeginLemmas.{mine, after, round_left, top_fits, begin_spent, begin_asks, ask_more, ask_last, answered_more, answered_last, promise_kept, kept_stands, kept_instance}
 use Rattle.crsm_replica_reconfigure.proofs.OwnLemmas.{renewed_fitting, noted}
+use Rattle.crsm_replica_reconfigure.proofs.ProposeLemmas.{own_next}
 use Rattle.crsm_replica_reconfigure.proofs.beginning.begin_proposing.Goals as goal
 
 pub returns-then-top : goal.returns-then-top
@@ -33,7 +34,7 @@ returns-then-is_alone c = λ x s p.
     let spelt : FitsBallot b = top_fits x c.args.seen sound p.0.1 c.greater-top.result top c.if-top.false in
     let many = sym (c.in_ok-is_alone.ensures x s) ∙ c.if-is_alone.true in
     let z : Draft = keep (Rec.Promise (instance x) b) x in
-    let same = kept_instance x c.in_ok-instance.instance c.above-ballot.result b (c.in_ok-instance.ensures x s) ballot in
+    let same = kept_instance x c.args.own.epoch c.above-ballot.result b (own_next x x.replica.me x.replica.n c.args.own p.0.0) ballot in
     let kept = (c.in_ok-promise.ensures x s (subst (λ q. FitsBallot q) (sym ballot) spelt)).1 in
     let fit : z.fitting ≡ true = promise_kept c.args.seen x sound.fitting sound.on_record in
     let mid = subst (λ y. ReplicaStands c.promise.new.state y) same (was_whole c.promise.new.state x _ (ap (λ y. y.fitting) same ∙ fit) kept) in
@@ -56,7 +57,7 @@ returns c = λ x s p.
     let spelt : FitsBallot b = top_fits x c.args.seen sound p.0.1 c.greater-top.result top c.if-top.false in
     let few = sym (c.in_ok-is_alone.ensures x s) ∙ c.if-is_alone.false in
     let z : Draft = keep (Rec.Promise (instance x) b) x in
-    let same = kept_instance x c.in_ok-instance.instance c.above-ballot.result b (c.in_ok-instance.ensures x s) ballot in
+    let same = kept_instance x c.args.own.epoch c.above-ballot.result b (own_next x x.replica.me x.replica.n c.args.own p.0.0) ballot in
     let kept = (c.in_ok-promise.ensures x s (subst (λ q. FitsBallot q) (sym ballot) spelt)).1 in
     let fit : z.fitting ≡ true = promise_kept c.args.seen x sound.fitting sound.on_record in
     let mid = subst (λ y. ReplicaStands c.promise.new.state y) same (was_whole c.promise.new.state x _ (ap (λ y. y.fitting) same ∙ fit) kept) in

@@ -1,6 +1,7 @@
-use Rattle.std.proofs.Common.{◌∙◌, sym, ap}
+use Rattle.std.proofs.Common.{◌∙◌, refl, sym, ap}
 use Rattle.std.specs.Prelude.{◌&&◌}
 use Rattle.crsm_spec.specs.Types.{Rec}
+use Rattle.crsm_spec.specs.Coordinate.{instance}
 use Rattle.crsm_spec.specs.Fits.{fits}
 use Rattle.crsm_replica_reconfigure.proofs.FitLemmas.{fits_preempted, fits_waiting, fits_accepted, fits_chosen, fits_not}
 use Rattle.crsm_replica_reconfigure.proofs.fitting.fits_own.Goals as goal
@@ -23,7 +24,7 @@ returns-then-not-accepts c = λ x own acceptors s f m.
     let top = c.promised-top.ensures x s in
     let below = sym c.ballot_precedes.ensures ∙ c.if-ballot_precedes.false in
     let due = sym (c.is_due-is_due.ensures x s) ∙ c.if-not-is_due.false in
-    fits_not c.args.ballot c.promised-top.result own c.args.value.now acceptors x c.in_ok-instance.instance sound top below due (c.in_ok-instance.ensures x s) (sym (c.in_ok-accepts.ensures x s) ∙ c.if-not-accepts.true)
+    fits_not c.args.ballot c.promised-top.result own c.args.value.now acceptors x (instance x) sound top below due refl (sym (c.in_ok-accepts.ensures x s) ∙ c.if-not-accepts.true)
 
 pub returns-then-not-is_chosen : goal.returns-then-not-is_chosen
 returns-then-not-is_chosen c = λ x own acceptors s f m.
@@ -31,7 +32,7 @@ returns-then-not-is_chosen c = λ x own acceptors s f m.
     let top = c.promised-top.ensures x s in
     let below = sym c.ballot_precedes.ensures ∙ c.if-ballot_precedes.false in
     let due = sym (c.is_due-is_due.ensures x s) ∙ c.if-not-is_due.false in
-    fits_accepted c.args.ballot c.promised-top.result own c.args.value.now acceptors x c.in_ok-instance.instance sound top below due (c.in_ok-instance.ensures x s) (sym (c.in_ok-accepts.ensures x s) ∙ c.if-not-accepts.false) (sym m ∙ c.if-not-is_chosen.true)
+    fits_accepted c.args.ballot c.promised-top.result own c.args.value.now acceptors x (instance x) sound top below due refl (sym (c.in_ok-accepts.ensures x s) ∙ c.if-not-accepts.false) (sym m ∙ c.if-not-is_chosen.true)
 
 pub returns : goal.returns
 returns c = λ x own acceptors s f m.
@@ -40,4 +41,4 @@ returns c = λ x own acceptors s f m.
     let below = sym c.ballot_precedes.ensures ∙ c.if-ballot_precedes.false in
     let due = sym (c.is_due-is_due.ensures x s) ∙ c.if-not-is_due.false in
     ap (λ p. p && c.in_ok-goes_on.goes_on) (c.in_ok-decides.ensures x s) ∙ ap (λ p. fits x.replica.me x.replica.n x.replica.log (Rec.Decide c.args.value.now) && p) (c.in_ok-goes_on.ensures x s)
-    ∙ fits_chosen c.args.ballot c.promised-top.result own c.args.value.now acceptors x c.in_ok-instance.instance sound top below due (c.in_ok-instance.ensures x s) f (sym (c.in_ok-accepts.ensures x s) ∙ c.if-not-accepts.false) (sym m ∙ c.if-not-is_chosen.false)
+    ∙ fits_chosen c.args.ballot c.promised-top.result own c.args.value.now acceptors x (instance x) sound top below due refl f (sym (c.in_ok-accepts.ensures x s) ∙ c.if-not-accepts.false) (sym m ∙ c.if-not-is_chosen.false)

@@ -11,7 +11,7 @@ use Rattle.crsm_spec.specs.Replica.{Coordinator, spec_of}
 use Rattle.crsm_spec.specs.Quorum.{spec_decided}
 use Rattle.crsm_replica_coordinator.specs.Coordinator.{CoordinatorStands, proposal_of, preempted_by}
 use Rattle.crsm_replica.specs.Replica.{ReplicaStands}
-use Rattle.crsm_replica_reconfigure.proofs.ProposeLemmas.{own_preempted, own_waits, own_accepts, count_monotone, kept_coordinator, accepted_spec, none_proposed, kept_me}
+use Rattle.crsm_replica_reconfigure.proofs.ProposeLemmas.{accepted_next, own_preempted, own_waits, own_accepts, count_monotone, kept_coordinator, accepted_spec, none_proposed, kept_me}
 use Rattle.crsm_fact_log.proofs.LogsFit.{promised_fits}
 use Rattle.crsm_replica_coordinator.proofs.Coordinators.{proposing_mine}
 use Rattle.crsm_replica_reconfigure.proofs.ChoiceLemmas.{same_value, same_round, noted_twice, spec_is}
@@ -72,8 +72,9 @@ returns c = λ x b own value acceptors s e f.
     let mine = proposing_mine x.replica.me x.replica.n (decision x.replica.log) c.coordinator.result.now b own value acceptors stands in
     let z : Draft = keep (Rec.Accept (instance x) b value) x in
     let fit : z.fitting ≡ true = count_monotone b own value acceptors x.replica.me z (ap (λ y. y.fitting) (sym rule) ∙ f) in
-    let same : keep (Rec.Accept c.in_ok-instance.instance c.in-Some.ballot c.in-Some.value) x ≡ z =
-    ap (λ i. keep (Rec.Accept i c.in-Some.ballot c.in-Some.value) x) (c.in_ok-instance.ensures x s) ∙ ap (λ q. keep (Rec.Accept (instance x) q c.in-Some.value) x) ballot ∙ ap (λ d. keep (Rec.Accept (instance x) b d) x) decided in
+    let next : c.in-Some.value.epoch ≡ instance x = ap (λ (d : Decision). d.epoch) decided ∙ accepted_next x b value fit in
+    let same : keep (Rec.Accept c.in-Some.value.epoch c.in-Some.ballot c.in-Some.value) x ≡ z =
+    ap (λ i. keep (Rec.Accept i c.in-Some.ballot c.in-Some.value) x) next ∙ ap (λ q. keep (Rec.Accept (instance x) q c.in-Some.value) x) ballot ∙ ap (λ d. keep (Rec.Accept (instance x) b d) x) decided in
     let kept = c.in_ok-accept.ensures x s (subst (λ q. FitsBallot q) (sym ballot) mine.1, subst (λ d. FitsDecision d) (sym decided) mine.2) in
     let mid = subst (λ y. ReplicaStands c.accept.new.state y) same (was_whole c.accept.new.state x _ (ap (λ y. y.fitting) same ∙ fit) kept.1) in
     let me : c.me-me.result ≡ x.replica.me = c.me-me.ensures.value z mid ∙ kept_me (Rec.Accept (instance x) b value) x in
