@@ -11,7 +11,7 @@ use Rattle.crsm_spec.specs.Replica.{Replica}
 use Rattle.crsm_spec.specs.Draft.{Draft, begun}
 use Rattle.crsm_replica_output.specs.declared.batch.Batch.{Batch}
 use Rattle.crsm_replica_output.specs.Made.{made_of, IsBatchOf}
-use Rattle.crsm_replica.specs.Replica.{ReplicaStands, AwaitsBoot}
+use Rattle.crsm_replica.specs.Replica.{ReplicaStands, AwaitsBoot, CanBoot}
 use Rattle.crsm_core.specs.declared.replica.Core.{Core}
 
 -- memory ran out, and the fields of the core are unspecified
@@ -22,6 +22,10 @@ IsSpent core = core.is_spent ≡ true
 pub record CoreAwaits (core : Core) (me n : ℕ) (log : Log) : Type 0 where
   pub unspent : core.is_spent ≡ false
   pub waits : AwaitsBoot core.state me n log
+
+-- the boot of a core that is not spent can be recorded
+abbrev pub CanBegin : Core → Type 0
+CanBegin core = core.is_spent ≡ false → CanBoot core.state
 
 -- The core stands for the replica: all its fields agree with the replica's lists.
 pub record CoreStands (core : Core) (r : Replica) : Type 0 where

@@ -10,7 +10,7 @@ ghost use Rattle.crsm_spec.specs.Log.{Log, boots};
 ghost use Rattle.crsm_spec.specs.Replica.{Replica};
 ghost use Rattle.crsm_spec.specs.Step.{boot, step};
 ghost use Rattle.crsm_core.specs.Inputs.{input_of, FitsInput};
-ghost use Rattle.crsm_core.specs.Core.{CoreAwaits, CoreStands, Answers, IsSpent};
+ghost use Rattle.crsm_core.specs.Core.{CanBegin, CoreAwaits, CoreStands, Answers, IsSpent};
 
 use crate::input::Input;
 use crate::step;
@@ -42,6 +42,7 @@ impl Core {
     /// Records the boot and returns its output. The first boot of a replica that began the cluster enters epoch 0.
     /// `NoMemory` if memory runs out; the replica is then spent.
     pub fn begin(&mut self) -> Result<Batch, NoMemory>
+        requires { CanBegin self.old }
         ensures ruled { IfOk result (λ batch. (me n : ℕ) (log : Log) → CoreAwaits self.old me n log → boots log < u64_max →
             Answers batch (boot me n log) × CoreStands self.new (boot me n log).replica) }
         ensures spent { OnErr result (IsSpent self.new) }

@@ -8,7 +8,8 @@ use Rattle.crsm_replica_coordinator.specs.Coordinator.{CoordinatorStands}
 use Rattle.crsm_replica_output.specs.Made.{OutputStands, made_of, nothing}
 use Rattle.crsm_segment.specs.Gather.{GatherStands}
 use Rattle.crsm_spec.specs.Types.{Decision, Rec}
-use Rattle.crsm_spec.specs.Log.{Log, decision, executed}
+use Rattle.crsm_spec.specs.Clock.{u64_max}
+use Rattle.crsm_spec.specs.Log.{Log, boots, decision, executed}
 use Rattle.crsm_spec.specs.Replica.{Coordinator, Waiting, latest_from}
 use Rattle.crsm_spec.specs.Draft.{Draft, keep, noting}
 use Rattle.crsm_spec.specs.Coordinate.{forget_epoch}
@@ -58,6 +59,14 @@ pub record AwaitsInside (state : ReplicaState) (me n : ℕ) (log : Log) : Type 0
 -- The state is that of the ledger of this log, and the boot is not on record yet.
 unfoldable pub AwaitsBoot : ReplicaState → ℕ → ℕ → Log → Type 0
 AwaitsBoot state me n log = AwaitsInside state me n log
+
+-- a log of which the state awaits the boot, and which can count one more
+pub record CanBoot (state : ReplicaState) : Type 0 where
+  pub me : ℕ
+  pub n : ℕ
+  pub log : Log
+  pub awaits : AwaitsBoot state me n log
+  pub room : boots log < u64_max
 
 -- memory ran out in a step, and the state says nothing any more
 unfoldable pub IsSpent : ReplicaState → Type 0

@@ -58,7 +58,8 @@ fn apply(ledger: &mut Ledger, rec: &Rec) -> Result<Option<Lines>, NoMemory>
         Ok(lines) => Ok(Some(lines)),
         Err(LedgerError::NotFit { .. }) => Ok(None),
         Err(LedgerError::NoMemory) => Err(NoMemory),
-        Err(LedgerError::BadLog { .. }) => Err(never()),
+        // A record that does not come from a log has no place in one.
+        Err(LedgerError::BadLog { .. }) => unreachable!(),
     }
 }
 

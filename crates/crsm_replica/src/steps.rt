@@ -11,12 +11,12 @@ ghost use Rattle.crsm_spec.specs.Types.{Rec};
 ghost use Rattle.crsm_spec.specs.Log.{boots};
 ghost use Rattle.crsm_spec.specs.Draft.{Draft, begun};
 ghost use Rattle.crsm_spec.specs.Step.{boot, boot_again};
-ghost use Rattle.crsm_replica.specs.Replica.{ReplicaStands, AwaitsBoot, WhereStands};
+ghost use Rattle.crsm_replica.specs.Replica.{ReplicaStands, AwaitsBoot, CanBoot, WhereStands};
 
 use crate::gathered::Gathered;
 use crate::records::put;
 use crate::state::ReplicaState;
-use crsm_base::{MAX_REPLICAS, NoMemory, Rec, never};
+use crsm_base::{MAX_REPLICAS, NoMemory, Rec};
 use crsm_ledger::Ledger;
 use crsm_replica_coordinator::Coordinator;
 use crsm_replica_epoch::EpochState;
@@ -48,6 +48,7 @@ impl ReplicaState {
     /// Records the boot. The first boot of a replica that began the cluster enters epoch 0. `NoMemory` if memory runs
     /// out.
     pub fn begin(&mut self) -> Result<(), NoMemory>
+        requires { CanBoot self.old }
         ensures { IfOk result (λ _. (me n : ℕ) (log : List Rec) → AwaitsBoot self.old me n log → boots log < u64_max → ReplicaStands self.new (boot me n log)) }
     {
         let is_founding = self.ledger.boot() == 0 && self.me < self.ledger.n();
@@ -67,9 +68,10 @@ impl ReplicaState {
         Ok(batch)
     }
 
-    /// Records the boot, if the record fits.
+    /// Records the boot.
     #[tactic(auto, unfolding(crate::specs::Replica::ReplicaStands, crate::specs::Replica::AwaitsBoot))]
     fn boot_again(&mut self) -> Result<(), NoMemory>
+        requires { CanBoot self.old }
         ensures { IfOk result (λ _. (me n : ℕ) (log : List Rec) → AwaitsBoot self.old me n log → boots log < u64_max → ReplicaStands self.new (boot_again me n log)) }
     {
         let me = self.me.min(MAX_REPLICAS - 1);
@@ -77,7 +79,8 @@ impl ReplicaState {
         let rec = Rec::Boot { me, n };
         let fit = put(&mut self.ledger, &mut self.output, rec)?;
         if !fit {
-            return Err(never());
+            // The log can count one more boot.
+            unreachable!();
         }
         self.epoch_state = EpochState::new(self.alloc);
         Ok(())

@@ -10,6 +10,14 @@ use Rattle.crsm_shell.proofs.Boots.{boot_lines}
 use Rattle.crsm_shell.proofs.Records.{kept_fit, kept_spelt}
 use Rattle.crsm_shell.proofs.begin.begin.Goals as goal
 
+pub begin-requires : goal.begin-requires
+begin-requires c = λ _.
+    let w = c.in_ok-ledger.ensures.whole in
+    let me = c.args.me in
+    let n = c.args.n in
+    let awaits = c.in_ok-core.ensures me n w.0 w.2 (kept_fit me n [] w.0 c.args.bodies.now w.1 tt) (kept_spelt me n [] w.0 c.args.bodies.now w.1 tt) c.requires.me_below c.requires.some in
+    record { me = me; n = n; log = w.0; awaits = awaits.waits; room = w.3 }
+
 pub write_records-requires : goal.write_records-requires
 write_records-requires c =
     let w = c.in_ok-ledger.ensures.whole in
