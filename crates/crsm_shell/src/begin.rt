@@ -79,7 +79,7 @@ fn recovered(alloc: Global, me: u32, n: u32, bodies: &Bodies) -> Result<Ledger, 
         Err(LedgerError::BadLog { entry, why }) => Err(BootError::BadLog { entry, why }),
         Err(LedgerError::NoMemory) => Err(BootError::NoMemory),
         // Recovery never returns this error.
-        Err(LedgerError::NotFit { .. }) => Err(BootError::NoMemory),
+        Err(LedgerError::NotFit { .. }) => unreachable!(),
     }
 }
 

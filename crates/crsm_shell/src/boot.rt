@@ -119,6 +119,6 @@ fn keep_boot<D: Disk>(
                 size,
             })
         }
-        Err(why) => Err((BootError::from(why), log.into_disk())),
+        Err(why) => Err((BootError::of_put(why), log.into_disk())),
     }
 }

@@ -3,6 +3,7 @@
 ghost use Rattle.std.specs.Prelude.{◌≡◌};
 ghost use Rattle.crsm_shell.specs.declared.errors.BootError.TheVariants.{NoMemory as BootWithoutMemory};
 ghost use Rattle.crsm_shell.specs.declared.errors.TurnError.TheVariants.{NoMemory as TurnWithoutMemory};
+ghost use Rattle.crsm_shell.specs.Flushing.{IsOfPut};
 ghost use Rattle.crsm_shell.specs.Errors.{is_lasting, keep_failure, mount_failure, put_failure, take_failure};
 
 use crsm_base::NoMemory;
@@ -46,17 +47,18 @@ impl From<MountError> for BootError {
     }
 }
 
-/// Of a step's errors only the three of a disk come from the put of a boot.
-impl From<TurnError> for BootError {
-    ghost from_gives = { λ why e. e ≡ keep_failure why };
-
-    fn from(why: TurnError) -> BootError {
+impl BootError {
+    /// Returns the error of a boot whose records were not put into the log.
+    pub(crate) fn of_put(why: TurnError) -> BootError
+        requires { IsOfPut why }
+        ensures { result ≡ keep_failure why }
+    {
         match why {
             TurnError::DiskFault => BootError::DiskFault,
             TurnError::LogFull => BootError::LogFull,
-            TurnError::PortFault => BootError::NoMemory,
-            TurnError::Failed => BootError::NoMemory,
             TurnError::NoMemory => BootError::NoMemory,
+            // A put receives nothing, and the log of a boot has not failed.
+            TurnError::PortFault | TurnError::Failed => unreachable!(),
         }
     }
 }

@@ -7,7 +7,7 @@ ghost use Rattle.crsm_log.specs.Log.{Goes};
 ghost use Rattle.crsm_replica_io.specs.Outgoing.{packets_for};
 ghost use Rattle.crsm_shell.specs.Flushing.{AddsGroup, CallsForGroup, IsFullFor, LeavesGroup, LeavesLogs, SendsNone, SendsPackets, SpendsForGroup, StopsGroup};
 ghost use Rattle.crsm_shell.specs.Shell.{ShellStands, WhereHonest, WhereStands, records_of, sends_of};
-ghost use Rattle.crsm_shell.specs.Words.{buffer_of, disk_of, peers_of, has_failed};
+ghost use Rattle.crsm_shell.specs.Words.{buffer_of, disk_of, peers_of, pending_of, has_failed};
 
 use crate::errors::TurnError;
 use crate::keep::keep;
@@ -25,6 +25,7 @@ impl<D: Disk> Shell<D> {
         ensures added { WhereHonest D.meaning self.old (λ kept r steps. OnOk result (AddsGroup D.meaning self.old self.new steps)) }
         ensures peers { peers_of self.new ≡ peers_of self.old }
         ensures buffer { buffer_of self.new ≡ buffer_of self.old }
+        ensures none_left { OnOk result (pending_of self.new ≡ 0) }
 
         // The datagrams are sent once all is durable; and nothing else is.
         ensures sent { WhereStands D.meaning self.old (λ kept r steps.
