@@ -3,7 +3,7 @@
 ghost use Rattle.std.specs.Prelude.{◌≡◌, true, false};
 ghost use Rattle.crsm_node.specs.declared.errors.NodeEnd.TheVariants.{NoMemory as EndWithoutMemory};
 ghost use Rattle.crsm_node.specs.declared.errors.NodeError.TheVariants.{NoMemory as TurnsWithoutMemory};
-ghost use Rattle.crsm_node.specs.Errors.{boot_end, claim_end, serve_end, turn_failure};
+ghost use Rattle.crsm_node.specs.Errors.{boot_end, claim_end, turn_failure};
 
 use crsm_base::NoMemory;
 use crsm_log::ClaimError;
@@ -116,22 +116,6 @@ impl From<BootError> for NodeEnd {
             BootError::LogFull => NodeEnd::LogFull,
             BootError::BadLog { entry, why } => NodeEnd::BadLog { entry, why },
             BootError::NoMemory => NodeEnd::NoMemory,
-        }
-    }
-}
-
-impl From<NodeError> for NodeEnd {
-    ghost from_gives = { λ why e. e ≡ serve_end why };
-
-    fn from(why: NodeError) -> NodeEnd {
-        match why {
-            NodeError::PortFault => NodeEnd::PortFault,
-            NodeError::DiskFault => NodeEnd::DiskFault,
-            NodeError::LogFull => NodeEnd::LogFull,
-            NodeError::WriteFault => NodeEnd::WriteFault,
-            // A booted shell has not failed.
-            NodeError::Failed => NodeEnd::NoMemory,
-            NodeError::NoMemory => NodeEnd::NoMemory,
         }
     }
 }

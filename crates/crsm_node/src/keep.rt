@@ -3,7 +3,7 @@
 ghost use Rattle.std.specs.Prelude.{◌≡◌, ◌≤◌, [], true, false, OnOk, IsErrOf};
 ghost use Rattle.crsm_log.specs.Log.{Goes};
 ghost use Rattle.crsm_shell.specs.Shell.{WhereStands};
-ghost use Rattle.crsm_shell.specs.Words.{disk_of, has_failed, peers_of};
+ghost use Rattle.crsm_shell.specs.Words.{disk_of, has_failed, peers_of, pending_of};
 ghost use Rattle.crsm_node.specs.Steps.{KeepsGroup};
 
 use crate::errors::NodeError;
@@ -27,6 +27,7 @@ pub(crate) fn keep_group<P: Port, D: Disk, O: Sink, R: Reporter>(
     ensures goes { Goes (D.meaning (disk_of shell.old)) (D.meaning (disk_of shell.new)) }
     ensures peers { peers_of shell.new ≡ peers_of shell.old }
     ensures cleared { OnOk result (pending.new.lines ≡ []) }
+    ensures none_left { OnOk result (pending_of shell.new ≡ 0) }
     ensures later { O.faults sheet.old ≤ O.faults sheet.new }
     ensures usable { OnOk result (has_failed shell.new ≡ false) }
     ensures had_failed { IsErrOf result NodeError.Failed → has_failed shell.old ≡ true }

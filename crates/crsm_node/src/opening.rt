@@ -25,7 +25,7 @@ pub(crate) fn write_opening<O: Sink>(
     let count = bodies.len();
     for index in 0..count {
         let Some(body) = bodies.get(index) else {
-            return Err(NodeError::NoMemory);
+            unreachable!();
         };
         let bytes = Bytes::from_slice(alloc, body)?;
         write_line(alloc, &SheetLine::Entry { bytes }, sheet)?;

@@ -1,9 +1,9 @@
 //! A node from its start to its end.
 
-ghost use Rattle.std.specs.Prelude.{◌≡◌, []};
+ghost use Rattle.std.specs.Prelude.{◌≡◌, [], false, IsErrOf};
 ghost use Rattle.crsm_spec.specs.Replica.{Replica};
 ghost use Rattle.crsm_shell.specs.Shell.{ShellStands};
-ghost use Rattle.crsm_shell.specs.Words.{disk_of};
+ghost use Rattle.crsm_shell.specs.Words.{disk_of, has_failed, pending_of};
 ghost use Rattle.crsm_node.specs.Running.{Runs, RunsNumbered, RunsOverCluster, RunsShell, devices_of, end_of};
 
 use crate::errors::{NodeEnd, NodeError};
@@ -104,11 +104,18 @@ fn run_over<P: Port, D: Disk, C: Clock, O: Sink, R: Reporter>(
 }
 
 fn end_of(ended: Result<(), NodeError>) -> NodeEnd
+    requires { IsErrOf ended NodeError.Failed → ⊥ }
     ensures { result ≡ end_of ended }
 {
     match ended {
         Ok(()) => NodeEnd::Done,
-        Err(why) => NodeEnd::from(why),
+        Err(NodeError::PortFault) => NodeEnd::PortFault,
+        Err(NodeError::DiskFault) => NodeEnd::DiskFault,
+        Err(NodeError::LogFull) => NodeEnd::LogFull,
+        Err(NodeError::WriteFault) => NodeEnd::WriteFault,
+        Err(NodeError::NoMemory) => NodeEnd::NoMemory,
+        // A booted shell has not failed.
+        Err(NodeError::Failed) => unreachable!(),
     }
 }
 
@@ -123,8 +130,11 @@ fn run_shell<P: Port, D: Disk, C: Clock, O: Sink, R: Reporter>(
     sheet: &mut O,
     reporter: &mut R,
 ) -> Result<(), NodeError>
-    ensures { (r : Replica) → ShellStands shell.old (D.meaning (disk_of shell.old)) r.log r [] → order.now.me ≡ r.me →
+    requires idle { pending_of shell.old ≡ 0 }
+    requires well { has_failed shell.old ≡ false }
+    ensures runs { (r : Replica) → ShellStands shell.old (D.meaning (disk_of shell.old)) r.log r [] → order.now.me ≡ r.me →
         RunsShell D.meaning P.meaning C.readings O.written O.faults shell.old shell.new port.old port.new clock.old clock.new sheet.old sheet.new bodies.now r order.now.turns result }
+    ensures went { IsErrOf result NodeError.Failed → ⊥ }
 {
     write_opening(alloc, bodies, sheet)?;
     let mut detector = Detector::new(order.me);

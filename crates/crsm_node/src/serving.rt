@@ -1,7 +1,7 @@
 //! The turns of a node, one after another.
 
 ghost use Rattle.std.specs.Prelude.{◌≡◌, ◌≢◌, ◌⊎◌, ◌<◌, ◌≤◌, ◌↔◌, true, false, IsErrOf};
-ghost use Rattle.crsm_shell.specs.Words.{disk_of, has_failed};
+ghost use Rattle.crsm_shell.specs.Words.{disk_of, has_failed, pending_of};
 ghost use Rattle.crsm_node.specs.Devices.{WhereIdle, node_of};
 ghost use Rattle.crsm_node.specs.Serving.{Serves};
 
@@ -37,6 +37,8 @@ pub fn serve<C: Clock, P: Port, D: Disk, O: Sink, R: Reporter>(
     reporter: &mut R,
     turns: u64,
 ) -> Result<(), NodeError>
+    requires { pending_of shell.old ≡ 0 }
+
     // What it took, made durable, sent and wrote, for the replica that it stands for with no step pending.
     ensures serves { let node = node_of D.meaning P.meaning C.readings O.written O.faults in
         WhereIdle (node shell.old detector.old port.old clock.old sheet.old) (λ r w.

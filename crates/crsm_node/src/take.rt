@@ -1,6 +1,6 @@
 //! The taking of one turn.
 
-ghost use Rattle.std.specs.Prelude.{◌≡◌, ◌↔◌, IsTrue, ◌∷◌, [], ℕ, List, true, false, is_err, IfOk, IfErr, OnOk, IsErrOf};
+ghost use Rattle.std.specs.Prelude.{◌≡◌, ◌<◌, ◌↔◌, IsTrue, ◌∷◌, [], ℕ, List, true, false, is_err, IfOk, IfErr, OnOk, IsErrOf};
 ghost use Rattle.crsm_spec.specs.Draft.{Draft};
 ghost use Rattle.crsm_spec.specs.Log.{Log};
 ghost use Rattle.crsm_spec.specs.Replica.{Replica};
@@ -11,13 +11,12 @@ ghost use Rattle.crsm_replica_detector.specs.Wished.{with_turn};
 ghost use Rattle.crsm_replica_detector.specs.Watching.{heard_at};
 ghost use Rattle.crsm_shell.specs.Shell.{WhereStands};
 ghost use Rattle.crsm_shell.specs.Taking.{turn_of};
-ghost use Rattle.crsm_shell.specs.Words.{disk_of, has_failed, peers_of};
+ghost use Rattle.crsm_shell.specs.Words.{disk_of, has_failed, peers_of, pending_of};
 ghost use Rattle.crsm_node.specs.Steps.{FailsToTake, HasMembers, TakesTurn};
 
 use crate::errors::NodeError;
 use crate::pending::PendingTurns;
 use crate::report::Reporter;
-use crsm_base::never;
 use crsm_clock::Clock;
 use crsm_disk::Disk;
 use crsm_port::Port;
@@ -37,6 +36,7 @@ pub(crate) fn take_turn<C: Clock, P: Port, D: Disk, R: Reporter>(
     pending: &mut PendingTurns,
     reporter: &mut R,
 ) -> Result<bool, NodeError>
+    requires { pending_of shell.old < 32 }
     ensures took { WhereStands D.meaning shell.old (λ kept r steps. WhereWatches detector.old (λ me w. me ≡ r.me → IfOk result (λ is_datagram.
         TakesTurn shell.new (D.meaning (disk_of shell.new)) detector.new (C.readings clock.old) (C.readings clock.new) (P.meaning port.old) (P.meaning port.new) pending.old.lines pending.new.lines is_datagram kept r steps w))) }
     ensures failed { WhereStands D.meaning shell.old (λ kept r steps. WhereWatches detector.old (λ me w. me ≡ r.me → IfErr result
@@ -49,10 +49,6 @@ pub(crate) fn take_turn<C: Clock, P: Port, D: Disk, R: Reporter>(
 {
     inputs_are_wished();
     turns_are_watched();
-    if shell.pending() >= MOST_PENDING {
-        // A group of 32 turns is flushed before.
-        return Err(NodeError::from(never()));
-    }
     let what = detector.next(shell.state())?;
     poll_soon(port, &what, pending);
     has_members(&what);

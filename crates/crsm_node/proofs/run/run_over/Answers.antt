@@ -12,7 +12,7 @@ use Rattle.crsm_spec.specs.Draft.{Draft}
 use Rattle.crsm_spec.specs.Log.{Log}
 use Rattle.crsm_spec.specs.Replica.{Replica}
 use Rattle.crsm_shell.specs.Shell.{HasLog, ShellStands}
-use Rattle.crsm_shell.specs.Words.{disk_of, has_failed, peers_of}
+use Rattle.crsm_shell.specs.Words.{disk_of, has_failed, peers_of, pending_of}
 use Rattle.crsm_shell.specs.declared.shell.Shell.{Shell}
 use Rattle.crsm_node.specs.Kept.{HasBehind, HasLogOf}
 use Rattle.crsm_node.specs.Order.{peers_in}
@@ -83,6 +83,24 @@ not_failed : {D : Type 0} {g : _} (shell : Shell D g) (m : Meaning) (kept : Log)
 unfolding ShellStands
 not_failed shell m kept r steps s = s.well
 
+none_pending : {D : Type 0} {g : _} (shell : Shell D g) (m : Meaning) (kept : Log) (r : Replica) → ShellStands shell m kept r [] → pending_of shell ≡ 0
+unfolding ShellStands
+none_pending shell m kept r s = s.pending
+
+pub run_shell-requires : goal.run_shell-requires
+run_shell-requires g c =
+    let order = c.args.order.now in
+    let s = c.in-Ok.booted.shell in
+    let e = c.in-Ok.ensures in
+    let log = e.found.0 in
+    let r = booted order log in
+    let m = borrowed_as g.D.Disk.meaning (disk_of s) in
+    let stands = (e.boots log e.found.1).stands in
+    record { idle = none_pending s m r.log r stands; well = not_failed s m r.log r [] stands }
+
+pub end_of-requires : goal.end_of-requires
+end_of-requires g c = c.run_shell-ended.ensures.went
+
 pub returns-in-Ok-clause-runs : goal.returns-in-Ok-clause-runs
 returns-in-Ok-clause-runs g c =
     let order = c.args.order.now in
@@ -101,7 +119,7 @@ returns-in-Ok-clause-runs g c =
     let boots = e.boots log kept in
     let r = booted order log in
     let result = c.run_shell-ended.result in
-    let ran = c.run_shell-ended.ensures r boots.stands (sym (boot_mine order.me order.n log)) in
+    let ran = c.run_shell-ended.ensures.runs r boots.stands (sym (boot_mine order.me order.n log)) in
     let at = devices_of g.D.Disk.meaning g.P.Port.meaning g.C.Clock.readings g.O.Sink.written g.O.Sink.faults in
     let a = g.P.Port.meaning c.args.port.now in
     let z = g.P.Port.meaning c.run_shell-ended.new.port in
@@ -164,7 +182,7 @@ returns-in-Ok-clause-too_long g c =
     let order = c.args.order.now in
     let e = c.in-Ok.ensures in
     let log = e.found.0 in
-    elim (c.run_shell-ended.ensures (booted order log) (e.boots log e.found.1).stands (sym (boot_mine order.me order.n log))) [
+    elim (c.run_shell-ended.ensures.runs (booted order log) (e.boots log e.found.1).stands (sym (boot_mine order.me order.n log))) [
       | inl served ↦ served.serves.carries.too_long
       | inr failed ↦ ap (λ (m : PortMeaning). m.too_long) failed.2
     ]
@@ -174,7 +192,7 @@ returns-in-Ok-clause-framing g c =
     let order = c.args.order.now in
     let e = c.in-Ok.ensures in
     let log = e.found.0 in
-    elim (c.run_shell-ended.ensures (booted order log) (e.boots log e.found.1).stands (sym (boot_mine order.me order.n log))) [
+    elim (c.run_shell-ended.ensures.runs (booted order log) (e.boots log e.found.1).stands (sym (boot_mine order.me order.n log))) [
       | inl served ↦ served.serves.carries.framing
       | inr failed ↦ ap (λ (m : PortMeaning). m.framing) failed.2
     ]
@@ -184,7 +202,7 @@ returns-in-Ok-clause-borrowed_as g c =
     let order = c.args.order.now in
     let e = c.in-Ok.ensures in
     let log = e.found.0 in
-    elim (c.run_shell-ended.ensures (booted order log) (e.boots log e.found.1).stands (sym (boot_mine order.me order.n log))) [
+    elim (c.run_shell-ended.ensures.runs (booted order log) (e.boots log e.found.1).stands (sym (boot_mine order.me order.n log))) [
       | inl served ↦ served.serves.carries.borrowed_as
       | inr failed ↦ ap (λ (m : PortMeaning). m.borrowed_as) failed.2
     ]

@@ -14,7 +14,7 @@ use Rattle.crsm_replica_detector.specs.Watching.{Watch}
 use Rattle.crsm_spec_process.specs.Turns.{replica_after}
 use Rattle.crsm_replica_detector.specs.Wished.{watch_after}
 use Rattle.crsm_shell.specs.Shell.{HasLog, ShellStands}
-use Rattle.crsm_shell.specs.Words.{disk_of, has_failed}
+use Rattle.crsm_shell.specs.Words.{disk_of, has_failed, pending_of}
 use Rattle.crsm_shell.specs.declared.shell.Shell.{Shell}
 use Rattle.crsm_node.specs.Devices.{node_of}
 use Rattle.crsm_node.specs.Kept.{HasBehind, HasLogOf}
@@ -69,6 +69,7 @@ loop-turn-init g c =
     let well : has_failed shell ≡ false = sym c.failed.ensures.value ∙ c.if-failed.false in
     record {
       well = well;
+      few = let none = c.requires in omega (arith, none);
       stage = λ r w stands watches.
           begins g.D.Disk.meaning g.P.Port.meaning g.C.Clock.readings g.O.Sink.written g.O.Sink.faults r w shell c.args.detector.now c.args.port.now c.args.clock.now c.args.sheet.now c.new-pending.result.lines c.args.turns
           (file_has shell m r.log r [] stands) (λ honest. (shell.log.sound honest (shell.well well)).durable) (log_has shell m r stands) stands watches c.new-pending.ensures;
@@ -117,6 +118,7 @@ loop-turn-preserved g c =
     elim c.if-ends_group.branch [
       | then-ends_group+in_ok-keep_group-in-Ok v ↦ record {
         well = ap has_failed v.shell-is ∙ v.in_ok-keep_group-in-Ok.ensures.usable;
+        few = let none = ap pending_of v.shell-is ∙ v.in_ok-keep_group-in-Ok.ensures.none_left in omega (arith, none);
         stage = λ r w stands watches.
             let s = c.loop-turn.invariant.stage r w stands watches in
             let all = kept_turns s.groups ++ s.ts in
@@ -139,6 +141,11 @@ loop-turn-preserved g c =
       }
       | else-ends_group v ↦ record {
         well = ap has_failed v.shell-is ∙ c.in-Ok.ensures.usable;
+        few =
+            let is = ap pending_of v.shell-is in
+            let count = c.pending.ensures.value in
+            let few = (c.ends_group.ensures.no v.if-ends_group.false).2 in
+            omega (arith, is, count, few);
         stage = λ r w stands watches.
             let s = c.loop-turn.invariant.stage r w stands watches in
             let all = kept_turns s.groups ++ s.ts in
