@@ -16,6 +16,7 @@ use Rattle.crsm_spec.specs.Lines.{exec_line, exec_lines}
 use Rattle.crsm_ledger.specs.declared.history.History.{History}
 use Rattle.crsm_ledger.specs.declared.history.Position.{Position}
 use Rattle.crsm_ledger.specs.Executed.{HistoryStands, position_of, last_stamp_in, goes_on_behind}
+use Rattle.crsm_ledger.specs.Pieces.{IsSpelling}
 use Rattle.crsm_fact_log.proofs.Lists.{all-push, map-push, filter-push, slice_get-map, length-map, last_or-push, append-none}
 
 pub last_of-push : {X : Type 0} (xs : List X) (x : X) → last_of (xs ++ x ∷ []) ≡ Some x
@@ -110,13 +111,15 @@ entry_at es i bytes all is =
     let found : (e : Entry) × (slice_get es i ≡ Some e) × (bytes ≡ entry_bytes e) = by_found (slice_get es i) bytes is in
     (found.0, found.1, found.2, fits_at es i found.0 all found.1)
 
-pub none_at : (o : Option Entry) → None ≡ option_map entry_bytes o → None ≡ o
-none_at None is = refl
-none_at (Some e) is = cc
-
 -- what was read is the entry, if the entry would be read
-pub first_same : (o : Option (Entry × ℕ)) (a e : Entry) (k len : ℕ) → o ≡ Some (e, len) → o ≡ Some (a, k) → Some a ≡ Some e
-first_same o a e k len p q = ap (λ (r : Option (Entry × ℕ)). option_map (λ (x : Entry × ℕ). x.0) r) (sym q ∙ p)
+pub first_same : (o : Option (Entry × ℕ)) (a e : Entry) (k len : ℕ) → o ≡ Some (e, len) → o ≡ Some (a, k) → a ≡ e
+first_same o a e k len p q = let both : Some a ≡ Some e = ap (λ (r : Option (Entry × ℕ)). option_map (λ (x : Entry × ℕ). x.0) r) (sym q ∙ p) in cc
+
+-- what an encoding is read back as
+pub is_read : {bytes : List ℕ} (o : Option (Entry × ℕ)) (s : IsSpelling bytes) → ((e : Entry) (rest : List ℕ) → FitsEntry e → bytes ≡ entry_bytes e ++ rest → o ≡ Some (e, length (entry_bytes e))) → None ≡ o → ⊥
+is_read o s again none =
+    let found = again s.entry [] s.fits (s.is ∙ sym (append-none (entry_bytes s.entry))) in
+    cc (none, found)
 
 pub exec_lines-none : (me : ℕ) (done : List Entry) → exec_lines me done [] ≡ []
 unfolding exec_lines

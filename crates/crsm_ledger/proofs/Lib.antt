@@ -3,6 +3,7 @@ pub mod PiecesLemmas
 pub mod ExecutedLemmas
 pub mod ReadLemmas
 pub mod FitsLemmas
+pub mod FounderLemmas
 pub mod StepLemmas
 pub mod KeepLemmas
 pub mod RecoverLemmas

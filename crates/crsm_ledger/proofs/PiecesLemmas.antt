@@ -2,9 +2,9 @@
 use Rattle.std.proofs.Common.{◌≡◌, ℕ, suc, zero, ◌<◌, ◌≤◌, ◌+◌, List, [], ◌∷◌, ◌++◌, refl, ap, sym, ◌∙◌, arith, length, get_or, set, length-append, subst}
 use Rattle.std.specs.Prelude.{slice_range, slice_get, Some, None}
 use Rattle.std.specs.List.{AllByRecursion}
-use Rattle.crsm_fact_log.proofs.Lists.{all_got, get_or-grown, get_or-set, at_set, length-set, range-grown, range-end}
+use Rattle.crsm_fact_log.proofs.Lists.{all_got, all-push, get_or-grown, get_or-set, at_set, length-set, range-grown, range-end}
 use Rattle.crsm_ledger.specs.declared.spelt.SpellingRange.{SpellingRange}
-use Rattle.crsm_ledger.specs.Pieces.{piece, pieces, IsWithin, Keeps}
+use Rattle.crsm_ledger.specs.Pieces.{piece, pieces, AreSpelt, IsSpelling, IsWithin, Keeps}
 
 -- ---- chunks
 
@@ -89,5 +89,28 @@ pub length-pieces : (chunks : List (List ℕ)) (ps : List SpellingRange) → len
 unfolding pieces
 length-pieces chunks [] = refl
 length-pieces chunks (p ∷ ps) = ap (λ k. suc k) (length-pieces chunks ps)
+
+-- ---- encodings
+
+pub spelt-kept : (old new : List (List ℕ)) (ps : List SpellingRange) → Keeps old new → AreSpelt old ps → AreSpelt new ps
+spelt-kept old new ps keeps both = (
+  all-kept old new ps keeps both.0,
+  subst (λ (ss : List (List ℕ)). AllByRecursion IsSpelling ss) (sym (pieces-kept old new ps keeps both.0)) both.1,
+)
+
+pub spelt-push : (chunks : List (List ℕ)) (ps : List SpellingRange) (p : SpellingRange) → AreSpelt chunks ps → IsWithin chunks p → IsSpelling (piece chunks p) → AreSpelt chunks (ps ++ p ∷ [])
+spelt-push chunks ps p both within spelling = (
+  all-push (IsWithin chunks) ps p both.0 within,
+  subst (λ (ss : List (List ℕ)). AllByRecursion IsSpelling ss) (sym (pieces-push chunks ps p)) (all-push IsSpelling (pieces chunks ps) (piece chunks p) both.1 spelling),
+)
+
+pub none_spelt : AreSpelt [] []
+unfolding pieces
+none_spelt = (tt, tt)
+
+pub spelling_at : (ss : List (List ℕ)) (i : ℕ) (bytes : List ℕ) → AllByRecursion IsSpelling ss → slice_get ss i ≡ Some bytes → IsSpelling bytes
+spelling_at [] i bytes all is = cc
+spelling_at (s ∷ ss) zero bytes all is = let same : s ≡ bytes = cc in subst IsSpelling same all.0
+spelling_at (s ∷ ss) (suc i) bytes all is = spelling_at ss i bytes all.1 is
 
 pub ruleset pieces_rules = (keeps-refl, keeps-push, keeps-set, within-set, piece-set, length-pieces, pieces-at, pieces-beyond, all_got)

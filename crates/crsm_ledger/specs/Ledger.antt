@@ -1,5 +1,5 @@
 -- The relation of a ledger's fields to the log that it stands for.
-use Rattle.std.specs.Prelude.{◌≡◌, ℕ, ◌<◌, ◌≤◌, Bool, true, false, List, [], ◌∷◌, Option, Result, IfOk}
+use Rattle.std.specs.Prelude.{◌≡◌, ℕ, ◌<◌, ◌≤◌, Bool, true, false, List, [], ◌∷◌, length, Option, Result, IfOk}
 use Rattle.std.specs.List.{AllByRecursion}
 use Rattle.crsm_base.specs.declared.NoMemory.{NoMemory}
 use Rattle.crsm_spec.specs.Types.{Ballot, Entry, Decision, Rec, Line}
@@ -66,6 +66,10 @@ facts_of me n log = record {
   accepted = accepted log;
   logged = logged log;
 }
+
+-- how many entries the ledger has executed
+unfoldable pub executed_count : Ledger → ℕ
+executed_count l = length l.history.spelt
 
 -- The fields of the ledger of replica me, in a cluster that began with n, are what the log says.
 pub record FieldsStand (me n : ℕ) (ledger : Ledger) (log : Log) : Type 0 where

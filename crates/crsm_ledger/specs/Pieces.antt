@@ -1,5 +1,8 @@
 -- Pieces of chunks of bytes.
 use Rattle.std.specs.Prelude.{◌≡◌, ℕ, ◌<◌, ◌≤◌, List, [], length, map, slice_range, slice_index_or}
+use Rattle.std.specs.List.{AllByRecursion}
+use Rattle.crsm_base.specs.Spelling.{entry_bytes, FitsEntry}
+use Rattle.crsm_spec.specs.Types.{Entry}
 use Rattle.crsm_ledger.specs.declared.spelt.SpellingRange.{SpellingRange}
 
 -- the bytes at a place
@@ -15,6 +18,16 @@ pub record IsWithin (chunks : List (List ℕ)) (p : SpellingRange) : Type 0 wher
   pub chunk : p.chunk < length chunks
   pub order : p.start ≤ p.end
   pub end : p.end ≤ length (slice_index_or chunks p.chunk [])
+
+-- the bytes are the encoding of an entry
+pub record IsSpelling (bytes : List ℕ) : Type 0 where
+  pub entry : Entry
+  pub fits : FitsEntry entry
+  pub is : bytes ≡ entry_bytes entry
+
+-- each place lies in a chunk, and has the encoding of an entry
+abbrev pub AreSpelt : List (List ℕ) → List SpellingRange → Type 0
+AreSpelt chunks ps = AllByRecursion (IsWithin chunks) ps × AllByRecursion IsSpelling (pieces chunks ps)
 
 -- the bytes of each range of the old chunks are the same in the new ones
 pub record Keeps (old new : List (List ℕ)) : Type 0 where

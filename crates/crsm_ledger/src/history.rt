@@ -1,6 +1,6 @@
 //! The executed entries as bytes, the store that they lead to, and the last one.
 
-ghost use Rattle.std.specs.Prelude.{◌≡◌, ◌<◌, ℕ, [], ◌∷◌, ◌++◌, List, length, slice_get, Some, IfOk, OnOk};
+ghost use Rattle.std.specs.Prelude.{◌≡◌, ◌<◌, ◌^◌, ℕ, [], ◌∷◌, ◌++◌, List, length, slice_get, Some, IfOk, OnOk};
 ghost use Rattle.std.specs.List.{AllByRecursion};
 ghost use Rattle.std.specs.Option.{option_copied, option_map};
 ghost use Rattle.crsm_base.specs.declared.Entry.{Entry};
@@ -8,6 +8,7 @@ ghost use Rattle.crsm_base.specs.Spelling.{FitsEntry, entry_bytes};
 ghost use Rattle.crsm_base.specs.Store.{apply};
 ghost use Rattle.crsm_spec.specs.Lines.{exec_line, exec_lines};
 ghost use Rattle.crsm_ledger.specs.Executed.{HistoryStands, position_of, last_stamp_in};
+ghost use Rattle.crsm_ledger.specs.Pieces.{IsSpelling};
 
 use crate::spelt::Spelt;
 use crsm_base::{Answer, Bytes, Entry, Line, Lines, NoMemory, Stamp};
@@ -58,7 +59,9 @@ impl History {
 
     /// Returns the number of executed entries.
     pub fn len(&self) -> u64
-        ensures { (x : ℕ) (es : List Entry) → HistoryStands self.now x es → result ≡ length es }
+        ensures value { (x : ℕ) (es : List Entry) → HistoryStands self.now x es → result ≡ length es }
+        ensures count { result ≡ length self.now.spelt }
+        ensures few { result < 2 ^ 63 }
     {
         self.spelt.len() as u64
     }
@@ -92,14 +95,13 @@ impl History {
         self.spelt.get(place as usize)
     }
 
-    /// Returns the executed entry with this index, or `None` if there are not that many. `NoMemory` if memory runs out.
-    pub fn entry(&self, place: u64) -> Result<Option<Entry>, NoMemory>
-        ensures { (x : ℕ) (es : List Entry) → HistoryStands self.now x es → IfOk result (λ r. r ≡ slice_get es place) }
+    /// Returns the executed entry with this index. `NoMemory` if memory runs out.
+    pub fn entry(&self, place: u64) -> Result<Entry, NoMemory>
+        requires { place < length self.now.spelt }
+        ensures { (x : ℕ) (es : List Entry) → HistoryStands self.now x es → IfOk result (λ e. slice_get es place ≡ Some e) }
     {
-        match self.spelt.get(place as usize) {
-            None => Ok(None),
-            Some(bytes) => Ok(read_back(self.alloc, bytes)?),
-        }
+        let entry = read_back(self.alloc, self.spelt.at(place as usize))?;
+        Ok(entry)
     }
 
     /// Executes an entry and appends its line. `NoMemory` if memory runs out.
@@ -168,12 +170,13 @@ impl History {
     }
 }
 
-/// Decodes an entry. `None` if the bytes are not the encoding of one; `NoMemory` if memory runs out.
-fn read_back(alloc: Global, bytes: &[u8]) -> Result<Option<Entry>, NoMemory>
-    ensures { (e : Entry) → FitsEntry e → bytes.now ≡ entry_bytes e → IfOk result (λ r. r ≡ Some e) }
+/// Decodes an entry. `NoMemory` if memory runs out.
+fn read_back(alloc: Global, bytes: &[u8]) -> Result<Entry, NoMemory>
+    requires { IsSpelling bytes.now }
+    ensures { (e : Entry) → FitsEntry e → bytes.now ≡ entry_bytes e → IfOk result (λ r. r ≡ e) }
 {
     match read_entry(alloc, bytes)? {
-        Some((entry, _)) => Ok(Some(entry)),
-        None => Ok(None),
+        Some((entry, _)) => Ok(entry),
+        None => unreachable!(),
     }
 }

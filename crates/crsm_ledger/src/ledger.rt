@@ -1,14 +1,15 @@
 //! The ledger of one replica: its fields, its readers, and how a record changes it.
 
-ghost use Rattle.std.specs.Prelude.{◌≡◌, ℕ, ◌≤◌, ◌<◌, true, false, List, [], ◌∷◌, length, slice_get, IfOk};
+ghost use Rattle.std.specs.Prelude.{◌≡◌, ℕ, ◌≤◌, ◌<◌, ◌^◌, true, false, List, [], ◌∷◌, length, slice_get, Some, IfOk};
 ghost use Rattle.std.specs.Option.{option_map, option_copied};
 ghost use Rattle.crsm_base.specs.declared.Rec.{Rec};
 ghost use Rattle.std.specs.List.{AllByRecursion};
 ghost use Rattle.crsm_base.specs.Spelling.{entry_bytes, FitsEntry};
+ghost use Rattle.crsm_base.specs.Members.{IsMembers};
 ghost use Rattle.crsm_base.specs.Records.{FitsRec};
 ghost use Rattle.crsm_spec.specs.Fits.{fits, goes_on};
 ghost use Rattle.crsm_spec.specs.Lines.{lines_of};
-ghost use Rattle.crsm_ledger.specs.Ledger.{kind, WhereStands};
+ghost use Rattle.crsm_ledger.specs.Ledger.{executed_count, kind, WhereStands};
 ghost use Rattle.crsm_spec.specs.Log.{boots, start, live, suspended, executed, logged, unexecuted, last_stamp, promised, accepted, spec};
 
 use crate::checks::stands_behind;
@@ -16,7 +17,8 @@ use crate::error::LedgerError;
 use crate::history::History;
 use crate::logged::Logged;
 use crsm_base::{
-    Ballot, Decision, Entries, Entry, Lines, Members, NoMemory, Rec, Stamp, first_replicas,
+    Ballot, Decision, Entries, Entry, Lines, Members, MembersError, NoMemory, Rec, Stamp,
+    first_replicas,
 };
 use std::alloc::Global;
 
@@ -47,11 +49,16 @@ pub struct Ledger {
 /// The promise before any ballot was promised.
 pub(crate) const NO_BALLOT: Ballot = Ballot { round: 0, by: 0 };
 
-/// Returns these numbers as members. `NoMemory` if memory runs out, or if they are not valid members.
+/// Returns these numbers as members. `NoMemory` if memory runs out.
 fn members_of(alloc: Global, numbers: &[u32]) -> Result<Members, NoMemory>
+    requires { IsMembers numbers.now }
     ensures { IfOk result (λ members. members ≡ numbers.now) }
 {
-    Members::from_slice(alloc, numbers).map_err(|_| NoMemory)
+    match Members::from_slice(alloc, numbers) {
+        Ok(members) => Ok(members),
+        Err(MembersError::NoMemory) => Err(NoMemory),
+        Err(MembersError::NotAscending) => unreachable!(),
+    }
 }
 
 impl Ledger {
@@ -59,6 +66,7 @@ impl Ledger {
 
     /// Returns the ledger of an empty log, of replica `me` in a cluster that began with `n` replicas. `NoMemory` if
     /// memory runs out.
+    #[tactic(auto, using(crate::proofs::FounderLemmas::founders_are_members))]
     pub fn new(alloc: Global, me: u32, n: u32) -> Result<Ledger, NoMemory>
         requires me_below { me < 15 }
         requires some { 1 ≤ n }
@@ -130,18 +138,36 @@ impl Ledger {
     }
 
     /// Returns the number of executed entries.
+    #[tactic(auto, unfolding(crate::specs::Ledger::executed_count))]
     pub fn executed_len(&self) -> u64
-        ensures { WhereStands self.now (λ me n log. result ≡ length (executed log)) }
+        ensures value { WhereStands self.now (λ me n log. result ≡ length (executed log)) }
+        ensures count { result ≡ executed_count self.now }
+        ensures few { result < 2 ^ 63 }
     {
         self.history.len()
     }
 
     /// Returns the executed entry with this index, or `None` if the index is not below `executed_len`. `NoMemory` if
     /// memory runs out.
+    #[tactic(auto, using(std::proofs::lemmas::Option::slice_get_past))]
     pub fn executed(&self, place: u64) -> Result<Option<Entry>, NoMemory>
         ensures { WhereStands self.now (λ me n log. IfOk result (λ r. r ≡ slice_get (executed log) place)) }
     {
-        self.history.entry(place)
+        if place < self.executed_len() {
+            Ok(Some(self.executed_at(place)?))
+        } else {
+            Ok(None)
+        }
+    }
+
+    /// Returns the executed entry with this index, which is below `executed_len`. `NoMemory` if memory runs out.
+    #[tactic(auto, unfolding(crate::specs::Ledger::executed_count))]
+    pub fn executed_at(&self, place: u64) -> Result<Entry, NoMemory>
+        requires { place < executed_count self.now }
+        ensures { WhereStands self.now (λ me n log. IfOk result (λ e. slice_get (executed log) place ≡ Some e)) }
+    {
+        let entry = self.history.entry(place)?;
+        Ok(entry)
     }
 
     /// Returns whether the entry is after all executed ones, and so is not one of them.

@@ -1,9 +1,9 @@
 //! Encodings of executed entries, joined in chunks, with an index.
 
-ghost use Rattle.std.specs.Prelude.{◌≡◌, ◌<◌, ◌+◌, [], ◌∷◌, ◌++◌, List, length, slice_get, OnOk, IfOk};
+ghost use Rattle.std.specs.Prelude.{◌≡◌, ◌<◌, ◌+◌, ◌^◌, [], ◌∷◌, ◌++◌, List, length, slice_get, Some, OnOk, IfOk};
 ghost use Rattle.std.specs.List.{AllByRecursion};
 ghost use Rattle.std.specs.Option.{option_copied};
-ghost use Rattle.crsm_ledger.specs.Pieces.{Keeps, IsWithin, piece, pieces};
+ghost use Rattle.crsm_ledger.specs.Pieces.{Keeps, IsSpelling, IsWithin, piece, pieces};
 
 use crsm_base::{Bytes, NoMemory};
 use std::alloc::Global;
@@ -30,14 +30,13 @@ pub struct Spelt {
 
 impl Model for Spelt {
     ghost use Rattle.std.specs.Prelude.{List, ℕ};
-    ghost use Rattle.std.specs.List.{AllByRecursion};
-    ghost use Rattle.crsm_ledger.specs.Pieces.{pieces, IsWithin};
+    ghost use Rattle.crsm_ledger.specs.Pieces.{pieces, AreSpelt};
 
     ghost Value = { List (List ℕ) };
 
     ghost view = { λ s. pieces s.chunks.items s.places.items };
 
-    ghost invariant = { λ s. AllByRecursion (IsWithin s.chunks.items) s.places.items };
+    ghost invariant = { λ s. AreSpelt s.chunks.items s.places.items };
 }
 
 #[tactic(auto, using(crate::proofs::PiecesLemmas::pieces_rules))]
@@ -55,7 +54,8 @@ impl Spelt {
 
     /// Returns the number of encodings.
     pub fn len(&self) -> usize
-        ensures { result ≡ length self.now }
+        ensures value { result ≡ length self.now }
+        ensures few { result < 2 ^ 63 }
     {
         self.places.len()
     }
@@ -67,8 +67,18 @@ impl Spelt {
         piece_at(self.chunks.as_slice(), self.places.as_slice(), index)
     }
 
+    /// Returns the encoding with this index.
+    pub fn at(&self, index: usize) -> &[u8]
+        requires { index < length self.now }
+        ensures value { slice_get self.now index ≡ Some result.now }
+        ensures spelling { IsSpelling result.now }
+    {
+        range_at(self.chunks.as_slice(), self.places.as_slice(), index)
+    }
+
     /// Appends an encoding. `NoMemory` if memory runs out.
     pub fn push(&mut self, bytes: &[u8]) -> Result<(), NoMemory>
+        requires { IsSpelling bytes.now }
         ensures { OnOk result (self.new ≡ self.old ++ bytes.now ∷ []) }
     {
         make_room(self.alloc, &mut self.chunks, bytes.len())?;
@@ -80,12 +90,22 @@ impl Spelt {
 
 /// Returns the bytes of the range with this index.
 #[tactic(auto, using(crate::proofs::PiecesLemmas::pieces_rules))]
+fn range_at<'a>(chunks: &'a [Bytes], places: &[SpellingRange], index: usize) -> &'a [u8]
+    requires inside { AllByRecursion (IsWithin chunks.now) places.now }
+    requires index { index < length places.now }
+    ensures { slice_get (pieces chunks.now places.now) index ≡ Some result.now }
+{
+    bytes_at(chunks, places[index])
+}
+
+/// Returns the bytes of the range with this index, or `None` if there are not that many.
+#[tactic(auto, using(crate::proofs::PiecesLemmas::pieces_rules))]
 fn piece_at<'a>(chunks: &'a [Bytes], places: &[SpellingRange], index: usize) -> Option<&'a [u8]>
     requires { AllByRecursion (IsWithin chunks.now) places.now }
     ensures { option_copied result ≡ slice_get (pieces chunks.now places.now) index }
 {
     if index < places.len() {
-        Some(bytes_at(chunks, places[index]))
+        Some(range_at(chunks, places, index))
     } else {
         None
     }

@@ -21,7 +21,7 @@ returns c = λ me n log stands.
     let counted : c.push_replicas-2.new.out ≡ c.push_replicas.new.out ++ replicas_row (codes "replicas") (spec n log) =
     c.in_ok-push_replicas-2.ensures ∙ ap (λ (x : List ℕ). c.push_replicas.new.out ++ replicas_row (codes "replicas") x) (c.counted.ensures me n log stands) in
     let done : c.push_row-3.new.out ≡ c.push_replicas-2.new.out ++ row (codes "executed") (length (executed log) ∷ []) =
-    c.in_ok-push_row-3.ensures ∙ ap (λ (x : ℕ). c.push_replicas-2.new.out ++ row (codes "executed") (x ∷ [])) (c.executed_len.ensures me n log stands) in
+    c.in_ok-push_row-3.ensures ∙ ap (λ (x : ℕ). c.push_replicas-2.new.out ++ row (codes "executed") (x ∷ [])) (c.executed_len.ensures.value me n log stands) in
     on_ok_weaker c.push_row-4.result
     (λ last. seven c.args.out.now c.push_cluster.new.out c.push_row.new.out c.push_row-2.new.out c.push_replicas.new.out c.push_replicas-2.new.out c.push_row-3.new.out c.push_row-4.new.out _ _ _ _ _ _ _
     c.in_ok-push_cluster.ensures c.in_ok-push_row.ensures epoch in_epoch counted done

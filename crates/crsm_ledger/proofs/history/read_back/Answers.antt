@@ -1,10 +1,13 @@
 use Rattle.std.proofs.Common.{◌≡◌, [], ◌++◌, ◌∙◌, sym, length}
 use Rattle.crsm_base.specs.Spelling.{entry_bytes}
 use Rattle.crsm_fact_log.proofs.Lists.{append-none}
-use Rattle.crsm_ledger.proofs.ExecutedLemmas.{first_same}
+use Rattle.crsm_ledger.proofs.ExecutedLemmas.{first_same, is_read}
 use Rattle.crsm_ledger.proofs.history.read_back.Goals as goal
 
-pub returns-in-Some : goal.returns-in-Some
-returns-in-Some c = λ e fits is.
+pub unreachable-requires : goal.unreachable-requires
+unreachable-requires c = is_read c.in_ok-entry.field-0 c.requires c.in_ok-entry.ensures.again (sym c.in-None.is)
+
+pub returns : goal.returns
+returns c = λ e fits is.
     let whole : c.args.bytes.now ≡ entry_bytes e ++ [] = is ∙ sym (append-none (entry_bytes e)) in
     first_same c.in_ok-entry.field-0 c.in-Some.entry e c.in-Some.field-0-1 (length (entry_bytes e)) (c.in_ok-entry.ensures.again e [] fits whole) c.in-Some.is

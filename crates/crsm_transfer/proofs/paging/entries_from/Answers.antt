@@ -23,7 +23,7 @@ returns-in-None c = λ me n log s.
 
 pub returns : goal.returns
 returns c = λ me n log s.
-    let end = c.executed_len-place-end.ensures me n log s in
+    let end = c.executed_len-place-end.ensures.value me n log s in
     let past : length (executed log) ≤ c.loop-place.place = omega (arith, end) in
     run_over c.loop-place.entries (run_within c.loop-place.room (drop c.loop-place.place (executed log))) (first_page (drop c.args.from (executed log)))
     (run_past (executed log) c.loop-place.place c.loop-place.room past) (c.loop-place.invariant me n log s)

@@ -11,7 +11,7 @@ loop-place-preserved c =
     let same = c.in_ok-add_executed.ensures.same in (
       λ me n log es stands pre list.
           let i = before.0 me n log es stands pre list in
-          let len = c.executed_len-place-end.ensures me n log stands in
+          let len = c.executed_len-place-end.ensures.value me n log stands in
           let lt = c.loop-place-test.true in
           let x = some_at (executed log) c.loop-place.place (omega (arith, len, lt)) in
           let le : c.loop-place.place + 1 ≤ length (executed log) = omega (arith, len, lt) in (
@@ -27,6 +27,6 @@ loop-place-preserved c =
 pub returns-clause-list : goal.returns-clause-list
 returns-clause-list c = λ me n log es stands pre list.
     let i = c.loop-place.invariant.0 me n log es stands pre list in
-    let len = c.executed_len-place-end.ensures me n log stands in
+    let len = c.executed_len-place-end.ensures.value me n log stands in
     let le = c.loop-place-test.false in
     i.0 ∙ ap spelt (take_all c.loop-place.place (executed log) (omega (arith, len, le)))

@@ -1,15 +1,11 @@
-use Rattle.std.proofs.Common.{◌∙◌, sym}
-use Rattle.std.specs.Prelude.{slice_get}
-use Rattle.crsm_ledger.proofs.ExecutedLemmas.{none_at, entry_at, slice_get-spelt}
+use Rattle.std.proofs.Common.{◌∙◌, ap, sym}
+use Rattle.std.specs.Prelude.{Some}
+use Rattle.crsm_spec.specs.Types.{Entry}
+use Rattle.crsm_ledger.proofs.ExecutedLemmas.{entry_at, slice_get-spelt}
 use Rattle.crsm_ledger.proofs.history.History.entry.Goals as goal
 
-pub returns-in-None : goal.returns-in-None
-returns-in-None c = λ x es has.
-    let lent = rw c.in-None.is at c.get.ensures in
-    none_at (slice_get es c.args.place) (lent ∙ slice_get-spelt c.args.self.now x es c.args.place has)
-
-pub returns-in_ok-read_back-in-Some : goal.returns-in_ok-read_back-in-Some
-returns-in_ok-read_back-in-Some c = λ x es has.
-    let lent = rw c.in-Some.is at c.get.ensures in
-    let found = entry_at es c.args.place c.in-Some.bytes.now has.fit (lent ∙ slice_get-spelt c.args.self.now x es c.args.place has) in
-    c.in_ok-read_back-in-Some.ensures found.0 found.3 found.2 ∙ sym found.1
+pub returns : goal.returns
+returns c = λ x es has.
+    let lent = sym c.at.ensures.value ∙ slice_get-spelt c.args.self.now x es c.args.place has in
+    let found = entry_at es c.args.place c.at.result.now has.fit lent in
+    found.1 ∙ ap (λ (e : Entry). Some e) (sym (c.in_ok-entry.ensures found.0 found.3 found.2))

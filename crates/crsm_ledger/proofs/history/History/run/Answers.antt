@@ -10,6 +10,13 @@ use Rattle.crsm_ledger.proofs.ExecutedLemmas.{executes}
 use Rattle.crsm_ledger.proofs.history.History.run.Goals.{then-entry-self, else-entry-self}
 use Rattle.crsm_ledger.proofs.history.History.run.Goals as goal
 
+pub push-requires : goal.push-requires
+push-requires c = record {
+  entry = c.args.entry.now;
+  fits = c.requires;
+  is = c.as_slice.ensures ∙ c.in_ok-put_entry.ensures ∙ ap (λ (bytes : List ℕ). bytes ++ entry_bytes c.args.entry.now) c.clear.ensures;
+}
+
 pub returns-clause-executed : goal.returns-clause-executed
 returns-clause-executed c = λ x es has.
     let h = c.args.self.now in

@@ -1,31 +1,35 @@
-use Rattle.std.proofs.Common.{◌∙◌, ap, [], ◌∷◌, ◌++◌, List, ℕ}
+use Rattle.std.proofs.Common.{◌∙◌, ap, sym, subst, [], ◌∷◌, ◌++◌, List, ℕ}
 use Rattle.crsm_ledger.specs.declared.spelt.SpellingRange.{SpellingRange}
-use Rattle.crsm_ledger.specs.Pieces.{IsWithin, pieces, piece}
-use Rattle.crsm_fact_log.proofs.Lists.{all-push}
-use Rattle.crsm_ledger.proofs.PiecesLemmas.{all-kept, keeps-trans, pieces-kept, pieces-push}
+use Rattle.crsm_ledger.specs.Pieces.{IsSpelling, pieces, piece}
+use Rattle.crsm_ledger.proofs.PiecesLemmas.{keeps-trans, pieces-kept, pieces-push, spelt-kept, spelt-push}
 use Rattle.crsm_ledger.proofs.spelt.Spelt.push.Goals as goal
+
+pub invariant_of-self : goal.invariant_of-self
+invariant_of-self c =
+    spelt-kept c.self.inside.chunks.items c.make_room.new.chunks.items c.self.inside.places.items c.make_room.ensures.keeps c.self.invariant
 
 pub invariant_of-self-in_err-place : goal.invariant_of-self-in_err-place
 invariant_of-self-in_err-place c =
-    all-kept c.self.inside.chunks.items c.append.new.chunks.items c.self.inside.places.items
+    spelt-kept c.self.inside.chunks.items c.append.new.chunks.items c.self.inside.places.items
     (keeps-trans c.self.inside.chunks.items c.make_room.new.chunks.items c.append.new.chunks.items c.make_room.ensures.keeps c.append.ensures.keeps)
     c.self.invariant
 
 pub invariant_of-self-in_err-push : goal.invariant_of-self-in_err-push
 invariant_of-self-in_err-push c =
     rw c.in_err-push.ensures.items
-    (all-kept c.self.inside.chunks.items c.append.new.chunks.items c.self.inside.places.items
+    (spelt-kept c.self.inside.chunks.items c.append.new.chunks.items c.self.inside.places.items
     (keeps-trans c.self.inside.chunks.items c.make_room.new.chunks.items c.append.new.chunks.items c.make_room.ensures.keeps c.append.ensures.keeps)
     c.self.invariant)
 
 pub invariant_of-self-2 : goal.invariant_of-self-2
 invariant_of-self-2 c =
     rw c.in_ok-push.ensures.items
-    (all-push (IsWithin c.append.new.chunks.items) c.self.inside.places.items c.in_ok-place.place
-    (all-kept c.self.inside.chunks.items c.append.new.chunks.items c.self.inside.places.items
+    (spelt-push c.append.new.chunks.items c.self.inside.places.items c.in_ok-place.place
+    (spelt-kept c.self.inside.chunks.items c.append.new.chunks.items c.self.inside.places.items
     (keeps-trans c.self.inside.chunks.items c.make_room.new.chunks.items c.append.new.chunks.items c.make_room.ensures.keeps c.append.ensures.keeps)
     c.self.invariant)
-    c.in_ok-place.ensures.placed.0)
+    c.in_ok-place.ensures.placed.0
+    (subst (λ (bytes : List ℕ). IsSpelling bytes) (sym c.in_ok-place.ensures.placed.1) c.requires))
 
 pub returns : goal.returns
 returns c =
@@ -34,6 +38,6 @@ returns c =
     ∙ ap (λ (before : List (List ℕ)). before ++ piece c.append.new.chunks.items c.in_ok-place.place ∷ [])
     (pieces-kept c.self.inside.chunks.items c.append.new.chunks.items c.self.inside.places.items
     (keeps-trans c.self.inside.chunks.items c.make_room.new.chunks.items c.append.new.chunks.items c.make_room.ensures.keeps c.append.ensures.keeps)
-    c.self.invariant)
+    c.self.invariant.0)
     ∙ ap (λ (bytes : List ℕ). pieces c.self.inside.chunks.items c.self.inside.places.items ++ bytes ∷ []) c.in_ok-place.ensures.placed.1
     ∙ ap (λ (before : List (List ℕ)). before ++ c.args.bytes.now ∷ []) c.self.view_is

@@ -12,7 +12,7 @@ unfolding ReplicaStands send_retrieve retrieve
 returns c x s =
     let r = x.replica in
     let now : c.known.result.now.epoch ≡ known r.log = ap (λ d. d.epoch) (c.known.ensures r.me r.n r.log s.ledger) ∙ known-epoch r.n r.log in
-    let done : c.executed_len-from.result ≡ length (executed r.log) = c.executed_len-from.ensures r.me r.n r.log s.ledger in
+    let done : c.executed_len-from.result ≡ length (executed r.log) = c.executed_len-from.ensures.value r.me r.n r.log s.ledger in
     let small : c.known.result.now.epoch < 2 ^ 64 = omega (arith, now, known-fits r.log s.sound.spelt) in
     let few : c.executed_len-from.result < 2 ^ 64 = omega (arith, c.executed_len-from.type_inv) in
     subst (λ n. ReplicaStands c.send_control.new.self (send_control (Control.Retrieve (known r.log) n) x c.args.k)) done
