@@ -39,7 +39,7 @@ exit "$fail"
 # crsm_cmd_dump 2
 # crsm_cmd_soak 1
 # crsm_delay 1
-# crsm_mpledger 5
+# crsm_mpledger 2
 # crsm_mpreplica 3
 # crsm_mpworld 9
 # crsm_node 1

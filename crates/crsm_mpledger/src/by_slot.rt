@@ -1,6 +1,6 @@
 //! Values by slot. Most slots are filled in order, and are in a list; those beyond a gap are in a map.
 
-ghost use Rattle.std.specs.Prelude.{◌≡◌, ◌<◌, [], ◌++◌, suc, length, slice_get, is_some, OnOk, true, false};
+ghost use Rattle.std.specs.Prelude.{◌≡◌, [], ◌++◌, suc, length, is_some, OnOk, true, false};
 ghost use Rattle.std.specs.Option.{option_copied};
 ghost use Rattle.std.specs.Ordering.{nat_cmp};
 ghost use Rattle.std.specs.Map.{lookup};
@@ -41,8 +41,7 @@ impl<V: Drop> BySlot<V> {
 
     /// Returns the value of a slot, or `None` if it has none.
     pub(crate) fn get(&self, slot: u64) -> Option<&V>
-        ensures value { WhereSlots self.now (λ entries. option_copied result ≡ lookup (is_at (nat_cmp slot)) entries) }
-        ensures listed { slot < length self.now.prefix.items → option_copied result ≡ slice_get self.now.prefix.items slot }
+        ensures { WhereSlots self.now (λ entries. option_copied result ≡ lookup (is_at (nat_cmp slot)) entries) }
     {
         if slot < self.prefix.len() as u64 {
             self.prefix.get(slot as usize)
@@ -58,11 +57,11 @@ impl<V: Drop> BySlot<V> {
         self.get(slot).is_some()
     }
 
-    /// Returns the first slot that has no value, which is the length of the list.
-    pub(crate) fn prefix_len(&self) -> u64
-        ensures { result ≡ length self.now.prefix.items }
+    /// Returns the values of the first slots, up to the first that has none.
+    pub(crate) fn prefix(&self) -> &[V]
+        ensures { result.now ≡ self.now.prefix.items }
     {
-        self.prefix.len() as u64
+        &self.prefix
     }
 
     /// Returns the values beyond the first slot that has none.

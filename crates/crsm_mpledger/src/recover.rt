@@ -21,7 +21,7 @@ impl MpLedger {
         ledger.make_room(bodies.len())?;
         for index in 0..bodies.len() {
             let Some(body) = bodies.get(index) else {
-                return Err(never());
+                unreachable!();
             };
             ledger.follow_body(alloc, body)?;
         }

@@ -5,7 +5,7 @@ ghost use Rattle.crsm_mpspec.specs.Log as logs;
 ghost use Rattle.crsm_mpledger.specs.MpLedger.{WhereLedger};
 
 use crate::ledger::MpLedger;
-use crsm_base::{NoMemory, never};
+use crsm_base::NoMemory;
 use crsm_mpspec::{MpAccepted, MpAccepts, MpChoices, MpChosen, copy_value};
 
 impl MpLedger {
@@ -15,11 +15,9 @@ impl MpLedger {
         ensures { IfOk result (λ accepts. WhereLedger self.now (λ log. accepts ≡ logs.accepted_from start log)) }
     {
         let mut accepts = MpAccepts::new(self.alloc);
-        for slot in start..self.accepted.prefix_len() {
-            let Some((ballot, value)) = self.accepted.get(slot) else {
-                // The slot is within the prefix.
-                return Err(never());
-            };
+        let first = self.accepted.prefix();
+        for slot in start..first.len() as u64 {
+            let (ballot, value) = &first[slot as usize];
             accepts.push(MpAccepted {
                 slot,
                 ballot: *ballot,
@@ -42,11 +40,9 @@ impl MpLedger {
         ensures { IfOk result (λ choices. WhereLedger self.now (λ log. choices ≡ logs.chosen_from start log)) }
     {
         let mut choices = MpChoices::new(self.alloc);
-        for slot in start..self.chosen.prefix_len() {
-            let Some(value) = self.chosen.get(slot) else {
-                // The slot is within the prefix.
-                return Err(never());
-            };
+        let first = self.chosen.prefix();
+        for slot in start..first.len() as u64 {
+            let value = &first[slot as usize];
             choices.push(MpChosen {
                 slot,
                 value: copy_value(self.alloc, value)?,

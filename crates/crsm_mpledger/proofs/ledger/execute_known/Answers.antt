@@ -14,7 +14,7 @@ loop-slot-preserved c log sound entries done whole start =
     let i = c.loop-slot.invariant log sound entries done whole start in
     let slot = c.loop-slot.slot in
     let is : chosen_at slot log ≡ Some c.in-Some.value.now
-    = sym (c.get.ensures.value (by_slot (choices log)) entries ∙ get-by_slot slot (choices log)) ∙ ap option_copied c.in-Some.is in
+    = sym (c.get.ensures (by_slot (choices log)) entries ∙ get-by_slot slot (choices log)) ∙ ap option_copied c.in-Some.is in
     let next = run-next slot c.in-Some.value.now log i.1 is in (
       subst (λ vs. ExecutionsStand c.execute.new.self vs) (sym next) (c.in_ok-execute.ensures (run_from slot 0 log) i.0),
       ap length next ∙ length-append (run_from slot 0 log) (c.in-Some.value.now ∷ []) ∙ ap (λ n. n + 1) i.1,
@@ -26,7 +26,7 @@ returns-in_default c log sound entries done whole start =
     let i = c.loop-slot.invariant log sound entries done whole start in
     let slot = c.loop-slot.slot in
     let none : chosen_at slot log ≡ None
-    = sym (c.get.ensures.value (by_slot (choices log)) entries ∙ get-by_slot slot (choices log)) ∙ ap option_copied c.in_default.is in
+    = sym (c.get.ensures (by_slot (choices log)) entries ∙ get-by_slot slot (choices log)) ∙ ap option_copied c.in_default.is in
     subst (λ vs. ExecutionsStand c.loop-slot.executions vs) (sym (executed_is slot log i.1 none)) i.0
 
 pub returns : goal.returns

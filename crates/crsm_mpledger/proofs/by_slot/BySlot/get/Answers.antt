@@ -7,8 +7,8 @@ use Rattle.std.specs.BTreeMap.{is_at}
 use Rattle.crsm_mpledger.proofs.NumberedLemmas.{get-listed, get-beyond, lent-item}
 use Rattle.crsm_mpledger.proofs.by_slot.BySlot.get.Goals as goal
 
-pub returns-then-slot-len-clause-value : goal.returns-then-slot-len-clause-value
-returns-then-slot-len-clause-value g c entries s =
+pub returns-then-slot-len : goal.returns-then-slot-len
+returns-then-slot-len g c entries s =
     let slot = c.args.slot in
     let xs = c.args.self.now.prefix.items in
     let same : c.deref.result.now ≡ xs = search rules in
@@ -18,22 +18,10 @@ returns-then-slot-len-clause-value g c entries s =
     is ∙ sym (get-listed 0 slot slot xs c.args.self.now.beyond.entries (omega arith) below)
     ∙ ap (λ es. lookup (is_at (nat_cmp slot)) es) s.is
 
-pub returns-else-slot-len-clause-value : goal.returns-else-slot-len-clause-value
-returns-else-slot-len-clause-value g c entries s =
+pub returns-else-slot-len : goal.returns-else-slot-len
+returns-else-slot-len g c entries s =
     let slot = c.args.slot in
     let most : length c.args.self.now.prefix.items ≤ slot = search rules in
     c.get-else-slot-len.ensures.value
     ∙ sym (get-beyond 0 slot c.args.self.now.prefix.items c.args.self.now.beyond.entries (omega (arith, most)))
     ∙ ap (λ es. lookup (is_at (nat_cmp slot)) es) s.is
-
-pub returns-then-slot-len-clause-listed : goal.returns-then-slot-len-clause-listed
-returns-then-slot-len-clause-listed g c below =
-    let slot = c.args.slot in
-    let xs = c.args.self.now.prefix.items in
-    let same : c.deref.result.now ≡ xs = search rules in
-    lent-item c.deref.result.now slot c.get.result (subst (λ ys. slot < length ys) (sym same) below) c.get.ensures.lookup.0 c.get.ensures.lookup.1 ∙ ap (λ ys. slice_get ys slot) same
-
-pub returns-else-slot-len-clause-listed : goal.returns-else-slot-len-clause-listed
-returns-else-slot-len-clause-listed g c below =
-    let most : length c.args.self.now.prefix.items ≤ c.args.slot = search rules in
-    absurd (omega (arith, below, most))

@@ -5,4 +5,4 @@ use Rattle.crsm_mpledger.proofs.ledger.MpLedger.accepted.Goals as goal
 
 pub returns : goal.returns
 unfolding accepted_at
-returns c log s = c.get.ensures.value (by_slot (accepts log)) s.accepted ∙ get-by_slot c.args.slot (accepts log)
+returns c log s = c.get.ensures (by_slot (accepts log)) s.accepted ∙ get-by_slot c.args.slot (accepts log)

@@ -1,9 +1,9 @@
-use Rattle.std.proofs.Common.{rules, ◌≡◌, ◌<◌, ◌≤◌, ◌++◌, ◌∷◌, [], Some, length, ◌∙◌, ap, sym, arith, take_all}
+use Rattle.std.proofs.Common.{rules, ◌≡◌, ◌<◌, ◌≤◌, ◌++◌, ◌∷◌, [], Some, length, get_or, refl, ◌∙◌, ap, sym, arith, take_all}
 use Rattle.std.specs.Prelude.{map, filter, slice_get, ◌&&◌, true}
-use Rattle.std.specs.Option.{option_copied}
 use Rattle.std.specs.Ordering.{nat_cmp, is_le}
 use Rattle.std.specs.Map.Iter.{deref_pair}
 use Rattle.std.proofs.lemmas.Map.Iter.{iter_end}
+use Rattle.std.proofs.lemmas.Option.{slice_get_read}
 use Rattle.crsm_mpspec.specs.Log.{by_slot, choices, chosen_from, from_slot}
 use Rattle.crsm_mpledger.specs.BySlot.{numbered}
 use Rattle.crsm_mpledger.proofs.SlotLemmas.{chosen_of, entries-from_slot}
@@ -19,10 +19,12 @@ pub loop-slot-preserved : goal.loop-slot-preserved
 loop-slot-preserved c =
     let slot = c.loop-slot.slot in
     let xs = c.args.self.now.chosen.prefix.items in
+    let value = c.index-first-slot.result in
     let below : slot < length xs = search rules in
-    let is : slice_get xs slot ≡ Some c.in-Some.value.now = sym (c.get.ensures.listed below) ∙ ap option_copied c.in-Some.is in
-    let more : c.push.new.self ≡ c.loop-slot.choices ++ chosen_of (slot, c.in-Some.value.now) ∷ [] = search rules in
-    (omega (arith, c.loop-slot.invariant.0), reported-next chosen_of c.args.start slot xs c.in-Some.value.now c.loop-slot.choices c.push.new.self c.loop-slot.invariant.0 is c.loop-slot.invariant.1 more)
+    let is : slice_get xs slot ≡ Some value
+    = slice_get_read xs (length xs) slot value refl below (c.index-first-slot.is ∙ ap (λ ys. get_or ys slot value) c.prefix-first.ensures) in
+    let more : c.push.new.self ≡ c.loop-slot.choices ++ chosen_of (slot, value) ∷ [] = search rules in
+    (omega (arith, c.loop-slot.invariant.0), reported-next chosen_of c.args.start slot xs value c.loop-slot.choices c.push.new.self c.loop-slot.invariant.0 is c.loop-slot.invariant.1 more)
 
 pub loop-slot-2-init : goal.loop-slot-2-init
 loop-slot-2-init c =
