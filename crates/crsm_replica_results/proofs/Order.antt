@@ -1,8 +1,9 @@
 -- The index of an entry in an ascending list.
-use Rattle.std.proofs.Common.{◌≡◌, ℕ, zero, suc, ◌+◌, Bool, cond, true, false, List, [], ◌∷◌, take, drop, refl, sym, ap, ◌∙◌, subst, arith}
+use Rattle.std.proofs.Common.{◌≡◌, ℕ, zero, suc, ◌+◌, ◌≤◌, length, Bool, cond, true, false, List, [], ◌∷◌, take, drop, refl, sym, ap, ◌∙◌, subst, arith}
 use Rattle.std.specs.Prelude.{slice_get, Option, None, Some, find, IsTrue}
 use Rattle.std.specs.List.{AllByRecursion, enumerate_from}
 use Rattle.std.proofs.lemmas.Bool.Decides.{nat_tests}
+use Rattle.std.proofs.lemmas.Option.{slice_get_within}
 use Rattle.crsm_base.specs.Order.{stamp_lt, stamp_eq, entry_lt}
 use Rattle.crsm_base.specs.Store.{answer_after}
 use Rattle.crsm_spec.specs.Types.{Entry, Answer}
@@ -108,6 +109,10 @@ pub not_found : (e : Entry) (i : ℕ) (es : List Entry) → RisesStrictly es →
 unfolding find_executed is_same
 not_found e i es rises below above other =
     sym (ap (λ (o : Option (ℕ × Entry)). option_map (λ (p : ℕ × Entry). p.0) o) (none_of e 0 es (none_others e i es rises below above other)))
+
+-- what stands past the end is none of them
+pub past_end : (e : Entry) (i : ℕ) (es : List Entry) → length es ≤ i → (m : Entry) → slice_get es i ≡ Some m → is_same e m ≡ false
+past_end e i es beyond m there = let within = slice_get_within es i m there in absurd (omega (arith, within, beyond))
 
 -- what stands behind all that are executed is none of them
 pub none_ahead : (e : Entry) (es : List Entry) → RisesStrictly es → goes_on es (e ∷ []) ≡ true → None ≡ option_map (λ (p : ℕ × Entry). p.0) (find_executed es e)

@@ -1,8 +1,8 @@
 //! The answer to an entry.
 
-ghost use Rattle.std.specs.Prelude.{◌≡◌, ℕ, List, None, IsTrue, IfOk};
+ghost use Rattle.std.specs.Prelude.{◌≡◌, ◌<◌, ℕ, List, None, IsTrue, IfOk};
 ghost use Rattle.std.specs.List.{AllByRecursion};
-ghost use Rattle.crsm_ledger.specs.Ledger.{LedgerStands};
+ghost use Rattle.crsm_ledger.specs.Ledger.{LedgerStands, executed_count};
 ghost use Rattle.crsm_spec.specs.Types.{Rec};
 ghost use Rattle.crsm_spec.specs.Log.{executed};
 ghost use Rattle.crsm_replica_results.specs.Answering.{IsTrueOf, IsAnswerAt, answered};
@@ -51,6 +51,7 @@ fn answer_at(
     executions: &[usize],
     place: u64,
 ) -> Result<Answer, NoMemory>
+    requires { place < executed_count ledger.now }
     ensures { (me n : ℕ) (log : List Rec) → LedgerStands me n ledger.now log → AllByRecursion (IsTrueOf (executed log)) lines.now →
         IfOk result (IsAnswerAt (executed log) place) }
 {
