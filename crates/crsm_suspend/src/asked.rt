@@ -14,7 +14,7 @@ ghost use Rattle.crsm_suspend.specs.Reports.{page_from};
 use crate::checks::is_above;
 use crate::frozen::asked;
 use crate::report::Page;
-use crsm_base::{Entries, Entry, NoMemory, Stamp, never};
+use crsm_base::{Entries, Entry, NoMemory, Stamp};
 use crsm_ledger::Ledger;
 use std::alloc::Global;
 
@@ -27,9 +27,6 @@ pub fn own_page(alloc: Global, ledger: &Ledger) -> Result<Page, NoMemory>
     ensures told { (me n : ℕ) (log : List Rec) → LedgerStands me n ledger.now log → IfOk result (λ p. CanSend (known log) (page_from me p)) }
 {
     let executed = ledger.executed_len();
-    if executed > MOST_EXECUTED {
-        return Err(never());
-    }
     let last = ledger.last_stamp();
     let entries = copies_above(alloc, last, ledger.logged())?;
     Ok(Page {

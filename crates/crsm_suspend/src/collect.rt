@@ -14,7 +14,7 @@ use crate::asked::{is_page, own_page};
 use crate::got::{PageOutcome, decided, more};
 use crate::report::{Page, Report, ReportHead};
 use crate::reports::{base_of, floor_of, union_of, whole_count};
-use crsm_base::{Control, Decision, Members, NoMemory, Stamp, majority};
+use crsm_base::{Control, Decision, Members, MembersError, NoMemory, Stamp, majority};
 use crsm_ledger::Ledger;
 use std::alloc::Global;
 
@@ -233,7 +233,11 @@ impl Collect {
 fn copy_of(alloc: Global, members: &Members) -> Result<Members, NoMemory>
     ensures { IfOk result (λ copy. (copy ≡ members.now) × IsMembers copy) }
 {
-    Members::from_slice(alloc, members.as_slice()).map_err(|_| NoMemory)
+    match Members::from_slice(alloc, members.as_slice()) {
+        Ok(copy) => Ok(copy),
+        Err(MembersError::NoMemory) => Err(NoMemory),
+        Err(MembersError::NotAscending) => unreachable!(),
+    }
 }
 
 fn copy_of_option(alloc: Global, members: &Option<Members>) -> Result<Option<Members>, NoMemory>

@@ -8,11 +8,11 @@ returns-clause-page c = λ me n log s.
     let last = c.last_stamp-last.ensures me n log s in
     let entries : c.in_ok-entries.entries ≡ above (last_stamp log) (logged log) =
     c.in_ok-entries.ensures ∙ ap (λ o. above o c.logged.result.now) last ∙ ap (above (last_stamp log)) (c.logged.ensures.value me n log s) in
-    own_is log me c.executed_len-executed.result c.last_stamp-last.result c.in_ok-entries.entries (c.executed_len-executed.ensures me n log s) last entries
+    own_is log me c.executed_len-executed.result c.last_stamp-last.result c.in_ok-entries.entries (c.executed_len-executed.ensures.value me n log s) last entries
 
 pub returns-clause-told : goal.returns-clause-told
 returns-clause-told c = λ me n log s.
     let last = c.last_stamp-last.ensures me n log s in
     let entries : c.in_ok-entries.entries ≡ above (last_stamp log) (logged log) =
     c.in_ok-entries.ensures ∙ ap (λ o. above o c.logged.result.now) last ∙ ap (above (last_stamp log)) (c.logged.ensures.value me n log s) in
-    own_told log me c.executed_len-executed.result c.last_stamp-last.result c.in_ok-entries.entries c.logged.result.now (omega arith) entries (c.logged.ensures.value me n log s) c.logged.ensures.fit
+    own_told log me c.executed_len-executed.result c.last_stamp-last.result c.in_ok-entries.entries c.logged.result.now (omega (arith, c.executed_len-executed.ensures.few)) entries (c.logged.ensures.value me n log s) c.logged.ensures.fit
