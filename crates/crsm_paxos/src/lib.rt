@@ -6,4 +6,4 @@ mod proposer;
 mod readers;
 
 pub use acceptor::{Accepted, Acceptor, Promised};
-pub use proposer::{Next, Proposer, StartError};
+pub use proposer::{Next, Proposer};

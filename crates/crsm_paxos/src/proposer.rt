@@ -1,6 +1,6 @@
 //! The proposer: a proposal in progress.
 
-ghost use Rattle.std.specs.Prelude.{◌≡◌, ◌↔◌, ◌+◌, ◌^◌, ◌<◌, ◌≤◌, Option, Some, None, IfOk, OnOk, OnErr};
+ghost use Rattle.std.specs.Prelude.{◌≡◌, ◌+◌, ◌^◌, ◌<◌, ◌≤◌, Option, Some, None, IfOk, OnOk, OnErr};
 ghost use Rattle.crsm_base.specs.Order.{ballot_lt};
 ghost use Rattle.crsm_spec.specs.Paxos.{better_held, value_of_best};
 ghost use Rattle.crsm_spec.specs.Proposing.{start_proposing, after_p1b, after_p2b};
@@ -22,14 +22,6 @@ pub enum Next {
     Chosen(Decision),
     /// The proposal is preempted by this greater ballot.
     Over(Ballot),
-}
-
-/// The reason why no proposal begins.
-#[derive(Clone, Copy, Debug, PartialEq, Eq)]
-pub enum StartError {
-    /// The round is the greatest number, so there is no next one.
-    Spent,
-    NoMemory,
 }
 
 /// The accepted decision with the greatest ballot among the promises, and the replica that reported it.
@@ -68,28 +60,19 @@ impl Model for Proposer {
 
 impl Proposer {
     /// Begins a proposal of replica `me` in the round after that of the ballot, over a replica set of `n`. It proposes
-    /// its own decision unless a promise names an accepted one. `Spent` if there is no next round.
-    pub fn start(
-        alloc: Global,
-        own: Decision,
-        above: Ballot,
-        me: u32,
-        n: u32,
-    ) -> Result<Proposer, StartError>
+    /// its own decision unless a promise names an accepted one.
+    pub fn start(alloc: Global, own: Decision, above: Ballot, me: u32, n: u32) -> Proposer
+        requires next { above.round + 1 < 2 ^ 64 }
         requires me { me < 15 }
         requires one { 1 ≤ n }
         requires few { n ≤ 15 }
-        ensures spent { (result ≡ Err StartError.Spent) ↔ (above.round + 1 ≡ 2 ^ 64) }
-        ensures started { IfOk result (λ p. p ≡ start_proposing (record { round = above.round + 1; by = me }) own n) }
+        ensures { result ≡ start_proposing (record { round = above.round + 1; by = me }) own n }
     {
-        if above.round == u64::MAX {
-            return Err(StartError::Spent);
-        }
         let ballot = Ballot {
             round: above.round + 1,
             by: me,
         };
-        Ok(Proposer {
+        Proposer {
             alloc,
             ballot,
             own,
@@ -98,7 +81,7 @@ impl Proposer {
             best: None,
             has_proposed: false,
             voters: Vec::new(alloc),
-        })
+        }
     }
 
     /// Counts the promise of a replica, with the decision that it had accepted, and returns the next step: `Propose` at

@@ -1,6 +1,6 @@
 //! The transitions of a coordinator.
 
-ghost use Rattle.std.specs.Prelude.{◌≡◌, ◌<◌, ◌+◌, ℕ, Option, Some, [], ◌∷◌, ◌++◌, true, IfOk};
+ghost use Rattle.std.specs.Prelude.{◌≡◌, ◌<◌, ◌+◌, ◌^◌, ℕ, Option, Some, [], ◌∷◌, ◌++◌, true, IfOk};
 ghost use Rattle.crsm_base.specs.declared.Decision.{Decision};
 ghost use Rattle.crsm_base.specs.declared.Ballot.{Ballot};
 ghost use Rattle.crsm_base.specs.Messages.{FitsVote};
@@ -13,8 +13,8 @@ ghost use Rattle.crsm_replica_coordinator.specs.Stages.{AnsweredIs, WhereNextRou
 
 use crate::coordinator::{Coordinator, Voted};
 use crate::readers::is_chosen_with;
-use crsm_base::{Ballot, Decision, Members, NoMemory, never};
-use crsm_paxos::{Proposer, StartError};
+use crsm_base::{Ballot, Decision, Members, NoMemory};
+use crsm_paxos::Proposer;
 use std::alloc::Global;
 
 impl Coordinator {
@@ -44,15 +44,12 @@ impl Coordinator {
         spec: &Members,
         accepted: Option<(Ballot, Decision)>,
     ) -> Result<Coordinator, NoMemory>
-        requires { me < 15 }
+        requires me { me < 15 }
+        requires next { above.round + 1 < 2 ^ 64 }
         ensures { WhereNextRound me own spec.now above accepted (λ n known b. IfOk result (λ coordinator. AnsweredIs coordinator me n known b own (answer_of me accepted ∷ []))) }
     {
         let size = spec.count();
-        let mut proposer = match Proposer::start(alloc, own, above, me, size) {
-            Ok(proposer) => proposer,
-            Err(StartError::NoMemory) => return Err(NoMemory),
-            Err(StartError::Spent) => return Err(never()),
-        };
+        let mut proposer = Proposer::start(alloc, own, above, me, size);
         let ballot = proposer.ballot();
         proposer.on_p1b(me, ballot, accepted)?;
         Ok(Coordinator::Proposing(proposer))

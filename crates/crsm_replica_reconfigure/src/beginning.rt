@@ -73,6 +73,7 @@ pub fn begin_proposing(
 
 /// Returns a coordinator that asks for promises in the round after this ballot's, with its own promise counted.
 fn asking(state: &ReplicaState, own: Decision, top: Ballot) -> Result<Coordinator, NoMemory>
+    requires { top.round + 1 < 2 ^ 64 }
     ensures { IfOk result (λ coordinator. WhereNextRound state.now own top (λ x b. CoordinatesAs coordinator x (answered (spec_of x.replica) b own (own_answer x ∷ [])))) }
 {
     states_are_sound();

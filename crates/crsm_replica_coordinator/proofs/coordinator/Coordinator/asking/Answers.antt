@@ -5,7 +5,7 @@ use Rattle.crsm_replica_coordinator.proofs.coordinator.Coordinator.asking.Goals 
 
 pub returns : goal.returns
 returns c = λ n round known i e f r fb.
-    asking_stands c.args.me n known c.in-Ok.proposer c.on_p1b.new.self c.args.own (record { round = round; by = c.args.me }) c.args.spec.now c.count-size.result
+    asking_stands c.args.me n known c.start-proposer.result c.on_p1b.new.self c.args.own (record { round = round; by = c.args.me }) c.args.spec.now c.count-size.result
     (record { replica = c.args.me; accepted = c.args.accepted }) refl i fb e c.count-size.ensures.members c.count-size.ensures.value f
-    (c.in-Ok.ensures.started ∙ ap (λ x. start_proposing (record { round = x; by = c.args.me }) c.args.own c.count-size.result) (sym r))
-    (c.in_ok-on_p1b.ensures.state ∙ ap (λ x. after_p1b c.in-Ok.proposer c.args.me x c.args.accepted) c.ballot-ballot.ensures)
+    (c.start-proposer.ensures ∙ ap (λ x. start_proposing (record { round = x; by = c.args.me }) c.args.own c.count-size.result) (sym r))
+    (c.in_ok-on_p1b.ensures.state ∙ ap (λ x. after_p1b c.start-proposer.result c.args.me x c.args.accepted) c.ballot-ballot.ensures)
