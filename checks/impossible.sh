@@ -42,13 +42,9 @@ exit "$fail"
 # crsm_mpledger 2
 # crsm_mpreplica 3
 # crsm_mpworld 9
-# crsm_node 1
-# crsm_replica 5
-# crsm_replica_coordinator 1
+# crsm_replica 3
 # crsm_replica_output 2
-# crsm_replica_reconfigure 2
-# crsm_replica_results 2
 # crsm_sim_machine 9
 # crsm_sim_network 4
-# crsm_suspend 2
+# crsm_suspend 1
 # crsm_world 6
