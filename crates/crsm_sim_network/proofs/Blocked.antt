@@ -60,6 +60,15 @@ apart size a b h =
       | false ↦ λ e. let l = ltb-false a b e in inr (behind size b a (omega (arith, l, h)))
     ] refl
 
+-- a block has no more elements than the list
+pub block_few : (size b : ℕ) (xs : List ℕ) → length xs < 2 ^ 63 → length (block size b xs) < 2 ^ 63
+block_few size b xs few = let t = length-take-le size (drop (b * size) xs) in let d = length-drop (b * size) xs in omega (arith, t, d, few)
+  where
+    length-take-le : {A : Type 0} (n : ℕ) (ys : List A) → length (take n ys) ≤ length ys
+    length-take-le zero ys = omega arith
+    length-take-le (suc n) [] = omega arith
+    length-take-le (suc n) (y ∷ ys) = let l = length-take-le n ys in omega (arith, l)
+
 -- ---- one element more
 
 earlier : (size p : ℕ) (xs : List ℕ) (c : ℕ) → p + size ≤ length xs → take size (drop p (xs ++ c ∷ [])) ≡ take size (drop p xs)
@@ -116,6 +125,34 @@ added size bs xs c old new some within here more are =
       ];
     }
 
+set_last : (bs : List Counts) (old new : Counts) → set (bs ++ old ∷ []) (length bs) new ≡ bs ++ new ∷ []
+set_last [] old new = refl
+set_last (b ∷ bs) old new = ap (λ cs. b ∷ cs) (set_last bs old new)
+
+get_end : (bs : List Counts) (new : Counts) → slice_get (bs ++ new ∷ []) (length bs) ≡ Some new
+get_end [] new = refl
+get_end (b ∷ bs) new = get_end bs new
+
+-- one more element, the first of its block
+pub begun : (size : ℕ) (bs : List Counts) (xs : List ℕ) (c : ℕ) (none new : Counts) → 0 < size → length bs ≤ length xs / size → length xs < 2 ^ 63
+    → IsCount none.each [] → ((ys : List ℕ) → length ys < 2 ^ 63 → IsCount none.each ys → IsCount new.each (ys ++ c ∷ []))
+    → AreBlocks size bs xs → AreBlocks size (bs ++ new ∷ []) (xs ++ c ∷ [])
+begun size bs xs c none new some past few nothing more are =
+    let low = div-mul-le_self (length xs) size in
+    let whole = are.whole in
+    let end : length xs / size ≡ length bs = ends (length xs / size) (length bs) past (λ l. let n = behind size (length bs) (length xs / size) l in absurd (omega (arith, n, low, whole, some))) in
+    let room = roomed size bs xs none nothing are in
+    let l : length (bs ++ none ∷ []) ≡ length bs + 1 = length-append bs (none ∷ []) in
+    let all = added size (bs ++ none ∷ []) xs c none new some (omega (arith, end, l)) (ap (slice_get (bs ++ none ∷ [])) end ∙ get_end bs none)
+    (more (block size (length xs / size) xs) (block_few size (length xs / size) xs few)) room in
+    subst (λ (cs : List Counts). AreBlocks size cs (xs ++ c ∷ [])) (ap (λ k. set (bs ++ none ∷ []) k new) end ∙ set_last bs none new) all
+  where
+    ends : (a b : ℕ) → b ≤ a → (b < a → ⊥) → a ≡ b
+    ends a b le not = elim (nat_lt b a) as (λ t. nat_lt b a ≡ t → a ≡ b) [
+      | true ↦ λ e. absurd (not (ltb-true b a e))
+      | false ↦ λ e. let l = ltb-false b a e in omega (arith, le, l)
+    ] refl
+
 -- ---- another element at its place
 
 set_before : (size p : ℕ) (xs : List ℕ) (i c : ℕ) → p + size ≤ i → take size (drop p (set xs i c)) ≡ take size (drop p xs)
@@ -159,15 +196,6 @@ changed size bs xs i from to old new some g here moves are =
             subst (λ (ys : List ℕ). IsCount counts.each ys) (sym same) (are.counted b counts (sym (get_other bs at b new t.1) ∙ e))
       ];
     }
-
--- a block has no more elements than the list
-pub block_few : (size b : ℕ) (xs : List ℕ) → length xs < 2 ^ 63 → length (block size b xs) < 2 ^ 63
-block_few size b xs few = let t = length-take-le size (drop (b * size) xs) in let d = length-drop (b * size) xs in omega (arith, t, d, few)
-  where
-    length-take-le : {A : Type 0} (n : ℕ) (ys : List A) → length (take n ys) ≤ length ys
-    length-take-le zero ys = omega arith
-    length-take-le (suc n) [] = omega arith
-    length-take-le (suc n) (y ∷ ys) = let l = length-take-le n ys in omega (arith, l)
 
 -- each place of the list is in a block that is counted
 pub has_block : (size : ℕ) (bs : List Counts) (xs : List ℕ) (i : ℕ) → 0 < size → i < length xs → AreBlocks size bs xs → length bs ≤ i / size → ⊥

@@ -1,13 +1,18 @@
 -- The datagrams that leave a replica, one by one.
-use Rattle.std.proofs.Common.{◌≡◌, ◌<◌, ◌+◌, ℕ, suc, List, [], ◌∷◌, ◌++◌, length, map, get_or, take, Some, refl, ap, sym, ◌∙◌, subst, arith, append_assoc, append-nil, length-append}
+use Rattle.std.proofs.Common.{◌≡◌, ◌<◌, ◌+◌, ◌^◌, ℕ, suc, List, [], ◌∷◌, ◌++◌, length, map, get_or, take, Some, refl, ap, sym, ◌∙◌, subst, arith, append_assoc, append-nil, length-append}
 use Rattle.std.specs.Prelude.{slice_get, option_map, unwrap_or}
 use Rattle.std.specs.List.{enumerate_from, flat_map}
 use Rattle.std.proofs.lemmas.List.{take_more, map-append, length-map}
+use Rattle.std.proofs.lemmas.Option.{slice_get_within}
 use Rattle.std.proofs.lemmas.List.Sums.{sum_by-append}
 use Rattle.crsm_base.specs.Messages.{datagram_bytes}
 use Rattle.crsm_base.specs.declared.send.Send.{Send}
 use Rattle.crsm_base.specs.declared.send.To.TheVariants as to_whom
 use Rattle.crsm_port.specs.Meaning.{Packet as Sent}
+use Rattle.crsm_port.specs.Packets.{packets}
+use Rattle.crsm_port.specs.Sent.{packets_of}
+use Rattle.crsm_port.specs.declared.sent_packets.Label.{Label}
+use Rattle.crsm_port.specs.declared.sent_packets.SentPackets.{SentPackets}
 use Rattle.crsm_spec.specs.Types.{Datagram, Line}
 use Rattle.crsm_spec.specs.World.{Packet, packet_of, packets_size, send_line, send_lines}
 use Rattle.crsm_sim_network.specs.declared.network.Network.{Network}
@@ -96,3 +101,20 @@ told_next lines before after packets k sends i s l e f g =
     ∙ append_assoc before (send_lines k (length packets) xs) (send_lines k (length packets + length xs) (sent_to s))
     ∙ ap (λ ls. before ++ ls) (sym (lines_from k (length packets) xs (sent_to s)))
     ∙ ap (λ ys. before ++ send_lines k (length packets) ys) (sym (more_sent sends i s l e))
+
+-- ---- the datagrams on a port
+
+count_packets : (labels : List Label) (bytes : List ℕ) → length (packets labels bytes) ≡ length labels
+count_packets [] bytes = refl
+count_packets (l ∷ labels) bytes = ap suc (count_packets labels bytes)
+
+-- whatever has an index on a port is in memory, and so has the next index a number
+pub index_fits : (sent : SentPackets) (place : ℕ) (d : Sent) → slice_get (packets_of sent) place ≡ Some d → place + 1 < 2 ^ 64
+index_fits sent place d here =
+    let labels = sent.labels in
+    let within = slice_get_within (packets_of sent) place d here in
+    let count = count_packets labels.items sent.bytes.items in
+    let k = labels.ok.0 in
+    let m = labels.ok.1 in
+    let s = labels.small in
+    omega (arith, within, count, k, m, s)

@@ -5,18 +5,7 @@ ghost use Rattle.std.specs.List.{AllByRecursion, count_by};
 ghost use Rattle.crsm_sim_network.specs.Tally.{AreBlocks, IsClass, is_wanted};
 
 use crate::counts::Counts;
-use crsm_base::{NoMemory, never};
-
-/// Makes room for one more element after the first `place`, in blocks of `size`.
-fn make_room(blocks: &mut Vec<Counts>, size: usize, place: usize) -> Result<(), NoMemory>
-    requires { 0 < size }
-    ensures { (xs : List ℕ) → place ≡ length xs → AreBlocks size blocks.old.items xs → OnOk result (AreBlocks size blocks.new.items xs) }
-{
-    if place / size == blocks.len() {
-        blocks.push(Counts::new())?;
-    }
-    Ok(())
-}
+use crsm_base::NoMemory;
 
 /// Counts one more element at index `place`, after all others, in blocks of `size`.
 pub(crate) fn add(
@@ -29,13 +18,16 @@ pub(crate) fn add(
     requires class { class < 32 }
     ensures { (xs : List ℕ) → length xs < 2 ^ 63 → place ≡ length xs → AreBlocks size blocks.old.items xs → OnOk result (AreBlocks size blocks.new.items (xs ++ class ∷ [])) }
 {
-    make_room(blocks, size, place)?;
     let block = place / size;
-    if block >= blocks.len() {
-        return Err(never());
+    if block < blocks.len() {
+        let counts = &mut blocks[block];
+        counts.add(class);
+        return Ok(());
     }
-    let counts = &mut blocks[block];
+    // The element is the first of its block.
+    let mut counts = Counts::new();
     counts.add(class);
+    blocks.push(counts)?;
     Ok(())
 }
 

@@ -102,19 +102,10 @@ impl Network {
                 return Err(never());
             };
             self.send_one(k, send, text, lines)?;
-            let next = behind(place)?;
-            place = next;
+            place += 1;
         }
         Ok(())
     }
-}
-
-/// Returns the next index.
-fn behind(place: usize) -> Result<usize, NoMemory>
-    ensures { IfOk result (λ next. next ≡ place + 1) }
-{
-    // Whatever has an index is in memory.
-    place.checked_add(1).ok_or(never())
 }
 
 /// Returns the kind of a datagram between replicas.

@@ -7,7 +7,7 @@ ghost use Rattle.crsm_sim_network.specs.Tally.{TallyStands, WhereTally, is_wante
 
 use crate::blocks::{add, change, find, find_within};
 use crate::counts::{Counts, is_among};
-use crsm_base::{NoMemory, never};
+use crsm_base::NoMemory;
 use std::alloc::Global;
 
 /// Exclusive upper bound of a class.

@@ -4,7 +4,7 @@ use Rattle.crsm_base.specs.declared.send.Send.{Send}
 use Rattle.crsm_spec.specs.World.{packet_of, packets_size, send_lines}
 use Rattle.crsm_sim_network.specs.Packets.{NetworkStands, sent_of}
 use Rattle.crsm_port.specs.Sent.{packets_of}
-use Rattle.crsm_sim_network.proofs.PacketViews.{no_sent, no_told, sent_next, told_next, text_is}
+use Rattle.crsm_sim_network.proofs.PacketViews.{index_fits, no_sent, no_told, sent_next, told_next, text_is}
 use Rattle.crsm_sim_network.proofs.network.Network.send_all.Goals as goal
 
 pub loop-send-init : goal.loop-send-init
@@ -13,9 +13,13 @@ loop-send-init c = record {
   went = λ packets bytes h spelt. (no_sent c.args.self.now packets bytes c.args.k h, no_told c.args.lines.now c.args.k (length packets));
 }
 
+-- what the port has an index for is in memory
+pub overflow_add-place : goal.overflow_add-place
+overflow_add-place c = let fits = index_fits c.args.sent.now c.loop-send.place _ c.in-Some.ensures.some in omega (arith, fits)
+
 pub loop-send-preserved : goal.loop-send-preserved
 loop-send-preserved c = record {
-  at = let e = c.loop-send.invariant.at in let f = c.in_ok-next.ensures in omega (arith, e, f);
+  at = let e = c.loop-send.invariant.at in omega (arith, e);
   went = λ packets bytes h spelt.
       let was = c.loop-send.invariant.went packets bytes h spelt in
       let step = c.in_ok-send_one.ensures in
