@@ -36,7 +36,6 @@ done < <(count)
 exit "$fail"
 # list
 # crsm_audit 5
-# crsm_cmd_dump 2
 # crsm_cmd_soak 1
 # crsm_delay 1
 # crsm_mpledger 2
@@ -44,7 +43,7 @@ exit "$fail"
 # crsm_mpworld 9
 # crsm_replica 3
 # crsm_replica_output 2
-# crsm_sim_machine 9
+# crsm_sim_machine 4
 # crsm_sim_network 2
 # crsm_suspend 1
-# crsm_world 6
+# crsm_world 1

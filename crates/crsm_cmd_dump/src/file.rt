@@ -7,7 +7,7 @@ ghost use Rattle.crsm_cmd_dump.specs.Reading.{IsNoFile, Shows};
 ghost use Rattle.crsm_cmd_dump.specs.Texts.{cluster_number};
 
 use crate::ending::DumpEnd;
-use crsm_base::{Bodies, NoMemory, never};
+use crsm_base::{Bodies, NoMemory};
 use crsm_disk::{Disk, MemDisk};
 use crsm_log::{ClaimError, Log, claim};
 use std::alloc::Global;
@@ -28,7 +28,7 @@ fn disk_with(alloc: Global, file: &[u8]) -> Result<MemDisk, NoMemory>
     disk.reserve(1, file.len() as u64)?;
     match disk.write_at(0, file) {
         Ok(()) => Ok(disk),
-        Err(_) => Err(never()),
+        Err(_) => unreachable!(),
     }
 }
 

@@ -1,7 +1,6 @@
 -- The input that a shell takes at an arrival at its machine.
 use Rattle.std.proofs.Common.{◌≡◌, ℕ, ◌≤◌, List, [], ◌∷◌, length, take, Result, Ok, Err, Option, Some, None, is_some, refl, sym, ◌∙◌, ap, subst}
 use mathlib.Core.Bool.{false≢true}
-use Rattle.std.proofs.lemmas.List.{take_all}
 use Rattle.crsm_port.specs.Meaning.{Packet, Traffic, plain}
 use Rattle.crsm_spec.specs.Node.{Turn}
 use Rattle.crsm_replica_io.specs.declared.input.WantedInput.{WantedInput}
@@ -14,7 +13,7 @@ use Rattle.crsm_shell.specs.Taking.{turn_of as turn_taken}
 use Rattle.crsm_sim_machine.specs.declared.arrival.Arrival.{Arrival}
 use Rattle.crsm_sim_machine.specs.declared.arrival.Arrival.TheVariants as arrival
 use Rattle.crsm_sim_machine.specs.declared.packet_port.PacketPort.{PacketPort}
-use Rattle.crsm_sim_machine.specs.Arriving.{turn_of, IsShort, Asks}
+use Rattle.crsm_sim_machine.specs.Arriving.{turn_of, Asks}
 use Rattle.crsm_sim_machine.specs.PacketPorts.{meaning_of, traffic_of}
 
 -- what was taken, if anything
@@ -33,32 +32,32 @@ packet_or d (Some e) = e
 nothing : (d : Packet) → [] ≡ d ∷ [] → ⊥
 nothing d e = false≢true (ap (λ (ds : List Packet). is_some (first_packet ds)) e)
 
--- of one datagram that waits, and is short enough, all is taken
-received : (from : ℕ) (bytes : List ℕ) → length bytes ≤ 8192 → (t u : Traffic) → t.waiting ≡ (record { address = from; bytes = bytes }) ∷ [] → (buffer : List ℕ) (got : ReceivedInput) → IsFirst 8192 buffer plain t u got →
-    turn_taken buffer got ≡ Turn.In from bytes
+-- of one datagram that waits, all that the buffer holds is taken
+received : (from : ℕ) (bytes : List ℕ) → (t u : Traffic) → t.waiting ≡ (record { address = from; bytes = bytes }) ∷ [] → (buffer : List ℕ) (got : ReceivedInput) → IsFirst 8192 buffer plain t u got →
+    turn_taken buffer got ≡ Turn.In from (take 8192 bytes)
 unfolding turn_taken
-received from bytes short t u waits buffer taken.Tick first =
+received from bytes t u waits buffer taken.Tick first =
     let one : Packet = record { address = from; bytes = bytes } in
     let none : [] ≡ one ∷ [] = sym first.0 ∙ waits in
     absurd (nothing one none)
-received from bytes short t u waits buffer (taken.Datagram k len) first =
+received from bytes t u waits buffer (taken.Datagram k len) first =
     let one : Packet = record { address = from; bytes = bytes } in
     let same : first.0 ≡ one = ap (λ (ds : List Packet). packet_or one (first_packet ds)) (sym first.2 ∙ waits) in
     let address : k ≡ from = first.3 ∙ ap (λ (d : Packet). d.address) same in
-    let whole : take len buffer ≡ bytes = first.4 ∙ ap (λ (d : Packet). take 8192 d.bytes) same ∙ take_all 8192 bytes short in
+    let whole : take len buffer ≡ take 8192 bytes = first.4 ∙ ap (λ (d : Packet). take 8192 d.bytes) same in
     ap (λ (x : ℕ). Turn.In x (take len buffer)) address ∙ ap (Turn.In from) whole
-received from bytes short t u waits buffer (taken.Suspect ms) first = absurd first
+received from bytes t u waits buffer (taken.Suspect ms) first = absurd first
 
 -- what is taken off a port where this waits is the turn of it
-pub turn_arrives : (c : Arrival) (p u : PacketPort) (wanted : WantedInput) (buffer : List ℕ) (got : ReceivedInput) → IsShort c → Asks c wanted p → TakesInput wanted 8192 buffer (meaning_of p) (meaning_of u) (Ok got) →
+pub turn_arrives : (c : Arrival) (p u : PacketPort) (wanted : WantedInput) (buffer : List ℕ) (got : ReceivedInput) → Asks c wanted p → TakesInput wanted 8192 buffer (meaning_of p) (meaning_of u) (Ok got) →
     turn_taken buffer got ≡ turn_of c
 unfolding turn_of turn_taken
-turn_arrives (arrival.Bytes from bytes) p u wanted buffer got short asks takes =
+turn_arrives (arrival.Bytes from bytes) p u wanted buffer got asks takes =
     let it : TakesInput what.Receive 8192 buffer (meaning_of p) (meaning_of u) (Ok got) = subst (λ w. TakesInput w 8192 buffer (meaning_of p) (meaning_of u) (Ok got)) asks.0 takes in
-    received from bytes.now short (traffic_of p.slot) (traffic_of u.slot) asks.1 buffer got (it.first (traffic_of p.slot) (traffic_of u.slot) refl refl)
-turn_arrives arrival.Tick p u wanted buffer got short asks takes =
+    received from bytes.now (traffic_of p.slot) (traffic_of u.slot) asks.1 buffer got (it.first (traffic_of p.slot) (traffic_of u.slot) refl refl)
+turn_arrives arrival.Tick p u wanted buffer got asks takes =
     let it : TakesInput what.Tick 8192 buffer (meaning_of p) (meaning_of u) (Ok got) = subst (λ w. TakesInput w 8192 buffer (meaning_of p) (meaning_of u) (Ok got)) asks takes in
     ap (λ (r : Result ReceivedInput TakeError). turn_taken buffer (taken_of r)) it.1
-turn_arrives (arrival.Suspect ms) p u wanted buffer got short asks takes =
+turn_arrives (arrival.Suspect ms) p u wanted buffer got asks takes =
     let it : TakesInput (what.Suspect ms) 8192 buffer (meaning_of p) (meaning_of u) (Ok got) = subst (λ w. TakesInput w 8192 buffer (meaning_of p) (meaning_of u) (Ok got)) asks takes in
     ap (λ (r : Result ReceivedInput TakeError). turn_taken buffer (taken_of r)) it.1

@@ -5,7 +5,7 @@ use Rattle.crsm_spec.specs.Replica.{Replica}
 use Rattle.crsm_spec.specs.Draft.{Draft}
 use Rattle.crsm_spec.specs.World.{Site}
 use Rattle.crsm_sim_machine.specs.declared.machine.Machine.{Machine}
-use Rattle.crsm_sim_machine.specs.States.{IsIn, IsUpIn}
+use Rattle.crsm_sim_machine.specs.States.{IsDownOrSpent, IsIn, IsUpIn, IsUpOrSpent}
 
 -- The machine is this site of replica me, in a cluster that began with n.
 unfoldable pub MachineStands : Machine → (me n : ℕ) → Site → Type 0
@@ -14,6 +14,13 @@ MachineStands machine me n s = (machine.me ≡ me) × (machine.n ≡ n) × IsIn 
 -- The machine is up with r, whose last steps were these; they are not kept yet.
 unfoldable pub MachinePends : Machine → (me n : ℕ) → Replica → List Draft → Type 0
 MachinePends machine me n r steps = (machine.me ≡ me) × (machine.n ≡ n) × IsUpIn me n machine.state r steps
+
+-- the machine is not down, and the machine is not up; it is neither where memory ran out
+abbrev pub IsNotDown : Machine → Type 0
+IsNotDown machine = IsUpOrSpent machine.state
+
+abbrev pub IsNotUp : Machine → Type 0
+IsNotUp machine = IsDownOrSpent machine.state
 
 -- for each replica that is up on the machine, with these steps pending
 abbrev pub WherePending : Machine → ((me n : ℕ) → Replica → List Draft → Type 0) → Type 0

@@ -69,6 +69,20 @@ IsUpIn me n (state.Up shell) r steps = (kept : Log) × IsUpAs me n shell kept r 
 IsUpIn me n (state.Down left) r steps = ⊥
 IsUpIn me n state.Spent r steps = ⊥
 
+-- ---- which of them
+
+-- the replica is up, or memory ran out
+abbrev pub IsUpOrSpent : MachineState → Type 0
+IsUpOrSpent (state.Up shell) = Unit {0}
+IsUpOrSpent (state.Down left) = ⊥
+IsUpOrSpent state.Spent = Unit {0}
+
+-- the replica is down, or memory ran out
+abbrev pub IsDownOrSpent : MachineState → Type 0
+IsDownOrSpent (state.Up shell) = ⊥
+IsDownOrSpent (state.Down left) = Unit {0}
+IsDownOrSpent state.Spent = Unit {0}
+
 -- ---- what is known of each machine
 
 -- some log of replica me is on the disk

@@ -9,7 +9,7 @@ ghost use Rattle.crsm_spec.specs.Moments.{is_kept};
 ghost use Rattle.crsm_spec.specs.Replica.{Replica};
 ghost use Rattle.crsm_spec.specs.Draft.{Draft};
 ghost use Rattle.crsm_spec.specs.Node.{turn};
-ghost use Rattle.crsm_sim_machine.specs.Arriving.{turn_of, IsShort};
+ghost use Rattle.crsm_sim_machine.specs.Arriving.{turn_of};
 ghost use Rattle.crsm_sim_machine.specs.Outcomes.{LeavesCut, is_cut_kept, log_after};
 ghost use Rattle.crsm_sim_machine.specs.States.{HasSomeLog, IsDisk, IsSomeUp, IsUp, IsUpAs, WhereStepped};
 
@@ -87,7 +87,6 @@ pub(crate) fn cut(
     reading: u64,
 ) -> Result<(Option<Step>, Stopped), NoMemory>
     requires calls { stop.calls ≤ 4 }
-    requires short { IsShort arrival }
     requires up { ∥ IsSomeUp shell ∥₁ }
     ensures stands { IfOk result (λ cut. (me n : ℕ) (r : Replica) → IsUpAs me n shell r.log r [] → LeavesCut stop.calls stop.fill me n r (turn r (turn_of arrival.entry, reading)) cut.0 cut.1) }
     ensures spelt { IfOk result (λ cut. IfSome cut.0 (λ step. AllByRecursion FitsSent step.batch.sends)) }

@@ -1,6 +1,6 @@
 //! Readers of a machine.
 
-ghost use Rattle.std.specs.Prelude.{◌≡◌, ◌∷◌, [], ℕ, length, is_some, IfOk, IfSome, if◌then◌else◌};
+ghost use Rattle.std.specs.Prelude.{◌≡◌, ◌∷◌, [], ℕ, length, is_some, IfOk, IfSome, IsTrue, false, if◌then◌else◌};
 ghost use Rattle.crsm_spec.specs.Log as logs;
 ghost use Rattle.crsm_spec.specs.Replica.{Replica};
 ghost use Rattle.crsm_spec.specs.World as world;
@@ -9,7 +9,7 @@ ghost use Rattle.crsm_disk.specs.Memory.{meaning_of};
 ghost use Rattle.crsm_shell.specs.Shell.{ShellStands};
 ghost use Rattle.crsm_shell.specs.Words.{disk_of};
 ghost use Rattle.crsm_sim_machine.specs.Outcomes.{spec_at};
-ghost use Rattle.crsm_sim_machine.specs.Machine.{MachineStands, WhereStands, WhereUp};
+ghost use Rattle.crsm_sim_machine.specs.Machine.{IsNotDown, IsNotUp, MachineStands, WhereStands, WhereUp};
 ghost use Rattle.crsm_sim_machine.specs.States.{SumsUp};
 
 use crate::machine::Machine;
@@ -24,9 +24,15 @@ impl Machine {
     /// Returns whether the replica is up.
     #[tactic(auto, unfolding(crate::specs::Machine::MachineStands, crsm_spec::specs::World::is_up))]
     pub fn is_up(&self) -> bool
-        ensures { WhereStands self.now (λ me n s. result ≡ world.is_up s) }
+        ensures up { WhereStands self.now (λ me n s. result ≡ world.is_up s) }
+        ensures not_down { IsTrue result → IsNotDown self.now }
+        ensures not_up { result ≡ false → IsNotUp self.now }
     {
-        matches!(&self.state, MachineState::Up(_))
+        match &self.state {
+            MachineState::Up(_) => true,
+            MachineState::Down(_) => false,
+            MachineState::Spent => false,
+        }
     }
 
     /// Returns the shell of a replica that is up, or `None` if it is down.

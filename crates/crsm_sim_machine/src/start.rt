@@ -6,7 +6,7 @@ ghost use Rattle.crsm_spec.specs.Step as rules;
 ghost use Rattle.crsm_spec.specs.World as world;
 ghost use Rattle.crsm_spec.specs.World.{body_size};
 ghost use Rattle.crsm_sim_machine.specs.Outcomes.{Boots, HasBooted, IsBooted};
-ghost use Rattle.crsm_sim_machine.specs.Machine.{MachineStands, WhereDown};
+ghost use Rattle.crsm_sim_machine.specs.Machine.{IsNotUp, MachineStands, WhereDown};
 ghost use Rattle.crsm_sim_machine.specs.States.{HasSomeLog, IsDisk, IsUpAs};
 
 use crate::laws::boots_are_quiet;
@@ -31,7 +31,8 @@ impl Machine {
         requires below { me < 15 }
         requires some { 1 ≤ n }
         requires most { n ≤ 15 }
-        ensures { IfOk result (λ machine. MachineStands machine me n (world.Site.Down [])) }
+        ensures stands { IfOk result (λ machine. MachineStands machine me n (world.Site.Down [])) }
+        ensures down { IfOk result IsNotUp }
     {
         Ok(Machine {
             alloc,
@@ -42,9 +43,10 @@ impl Machine {
     }
 
     /// Boots the replica, which must be down, on its disk, and returns the boot's output. `NoMemory` if memory runs
-    /// out, or if the replica is up.
+    /// out.
     #[tactic(auto, unfolding(crate::specs::Machine::MachineStands))]
     pub fn start(&mut self) -> Result<Boot, NoMemory>
+        requires { IsNotUp self.old }
         ensures { IfOk result (λ boot. WhereDown self.old (λ me n log. HasBooted self.new me n boot (rules.boot me n log))) }
     {
         boots_are_quiet();
@@ -57,8 +59,7 @@ impl Machine {
                     size: booted.size,
                 })
             }
-            // A world starts only replicas that are down.
-            MachineState::Up(_) => Err(never()),
+            MachineState::Up(_) => unreachable!(),
             MachineState::Spent => Err(NoMemory),
         }
     }

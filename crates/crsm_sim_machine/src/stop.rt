@@ -6,9 +6,9 @@ ghost use Rattle.crsm_core.specs.Core.{FitsSent};
 ghost use Rattle.crsm_spec.specs.Replica.{Replica};
 ghost use Rattle.crsm_spec.specs.Node.{turn};
 ghost use Rattle.crsm_spec.specs.World as world;
-ghost use Rattle.crsm_sim_machine.specs.Arriving.{turn_of, IsShort};
+ghost use Rattle.crsm_sim_machine.specs.Arriving.{turn_of};
 ghost use Rattle.crsm_sim_machine.specs.Outcomes.{IsCut};
-ghost use Rattle.crsm_sim_machine.specs.Machine.{MachineStands, WhereStands, WhereUp};
+ghost use Rattle.crsm_sim_machine.specs.Machine.{IsNotDown, MachineStands, WhereStands, WhereUp};
 
 use crate::arrival::Arrival;
 use crate::cut::{PutStop, cut};
@@ -16,7 +16,7 @@ use crate::machine::Machine;
 use crate::state::MachineState;
 use crate::step::Step;
 use crate::stopped::stopped_by;
-use crsm_base::{NoMemory, never};
+use crsm_base::NoMemory;
 use std::mem;
 
 impl Machine {
@@ -41,7 +41,7 @@ impl Machine {
 
     /// Runs one step that stops after a number of disk calls of its put, with the byte `fill` in the ranges that were
     /// not synced, and takes the replica down. Returns the output of the step, or `None` if the step is lost.
-    /// `NoMemory` if memory runs out, or if the replica is down.
+    /// `NoMemory` if memory runs out.
     #[tactic(auto, unfolding(crate::specs::Machine::MachineStands))]
     pub fn cut_at(
         &mut self,
@@ -51,7 +51,7 @@ impl Machine {
         reading: u64,
     ) -> Result<Option<Step>, NoMemory>
         requires calls { calls ≤ 4 }
-        requires short { IsShort arrival }
+        requires up { IsNotDown self.old }
         ensures stands { IfOk result (λ step. WhereUp self.old (λ me n r.
             IsCut calls fill me n r (turn r (turn_of arrival.entry, reading)) step self.new)) }
         ensures spelt { IfOk result (λ step. IfSome step (λ s. AllByRecursion FitsSent s.batch.sends)) }
@@ -63,8 +63,7 @@ impl Machine {
                 self.state = MachineState::Down(left);
                 Ok(step)
             }
-            // A world stops only steps of replicas that are up.
-            MachineState::Down(_) => Err(never()),
+            MachineState::Down(_) => unreachable!(),
             MachineState::Spent => Err(NoMemory),
         }
     }

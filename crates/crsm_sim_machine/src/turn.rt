@@ -8,7 +8,7 @@ ghost use Rattle.crsm_spec.specs.Log.{Log};
 ghost use Rattle.crsm_spec.specs.Replica.{Replica};
 ghost use Rattle.crsm_spec.specs.Draft.{Draft};
 ghost use Rattle.crsm_spec.specs.Node.{turn};
-ghost use Rattle.crsm_sim_machine.specs.Arriving.{turn_of, IsShort, Asks};
+ghost use Rattle.crsm_sim_machine.specs.Arriving.{turn_of, Asks};
 ghost use Rattle.crsm_sim_machine.specs.PacketPorts.{traffic_of};
 ghost use Rattle.crsm_sim_machine.specs.Outcomes.{IsWell, Makes, Sends, ShellHasStepped, ShellHasTaken};
 ghost use Rattle.crsm_sim_machine.specs.States.{IsSomeUp, IsUpAs, WhereUpAs};
@@ -55,8 +55,7 @@ pub(crate) fn take(
     arrival: Arrival<'_>,
     reading: u64,
 ) -> Result<Step, NoMemory>
-    requires short { IsShort arrival }
-    requires up { ∥ IsSomeUp shell.old ∥₁ }
+    requires { ∥ IsSomeUp shell.old ∥₁ }
     ensures stands { IfOk result (λ step. WhereUpAs shell.old (λ me n kept r steps.
         ShellHasTaken shell.new me n kept r steps step (turn r (turn_of arrival.entry, reading)))) }
     ensures spelt { IfOk result (λ step. AllByRecursion FitsSent step.batch.sends) }
@@ -120,8 +119,7 @@ pub(crate) fn step(
     reading: u64,
     port: &mut MemPort,
 ) -> Result<(Step, usize), NoMemory>
-    requires short { IsShort arrival }
-    requires up { ∥ IsSomeUp shell.old ∥₁ }
+    requires { ∥ IsSomeUp shell.old ∥₁ }
     ensures stands { IfOk result (λ made. WhereUpAs shell.old (λ me n kept r steps.
         ShellHasStepped shell.new me n made.0 (turn r (turn_of arrival.entry, reading)))) }
     ensures sent { IfOk result (λ made. WhereUpAs shell.old (λ me n kept r steps. IsWell port.old →

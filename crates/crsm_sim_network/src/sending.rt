@@ -80,7 +80,8 @@ impl Network {
     }
 
     /// Records the output of a step of replica `k` in order, and appends the lines of its packets. A port has sent it:
-    /// the bytes are those of the port from index `first` on. `NoMemory` if memory runs out.
+    /// the bytes are those of the port from index `first` on. Returns the index behind them. `NoMemory` if memory runs
+    /// out.
     pub fn send_all(
         &mut self,
         k: u32,
@@ -88,12 +89,13 @@ impl Network {
         sent: &SentPackets,
         first: usize,
         lines: &mut Lines,
-    ) -> Result<(), NoMemory>
+    ) -> Result<usize, NoMemory>
         requires { AllByRecursion FitsPacket sends.now }
         ensures network { OnOk result (WhereStands self.old (λ packets bytes. AreSpelt sends.now (packets_of sent.now) first →
             HasSent self.new packets bytes k (sent_of sends.now))) }
         ensures lines { OnOk result (WhereStands self.old (λ packets bytes. AreSpelt sends.now (packets_of sent.now) first →
             lines.new ≡ lines.old ++ on_paper.send_lines k (length packets) (sent_of sends.now))) }
+        ensures behind { IfOk result (λ next. next ≡ first + length sends.now) }
     {
         let mut place = first;
         for send in sends {
@@ -104,7 +106,7 @@ impl Network {
             self.send_one(k, send, text, lines)?;
             place += 1;
         }
-        Ok(())
+        Ok(place)
     }
 }
 

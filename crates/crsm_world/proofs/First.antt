@@ -3,6 +3,7 @@ use Rattle.std.proofs.Common.{◌≡◌, ◌<◌, ◌≤◌, ◌+◌, ℕ, cond,
 use Rattle.std.specs.Prelude.{slice_get, sum_by}
 use Rattle.std.specs.List.{range_with_len, flat_map}
 use Rattle.std.proofs.Math.Seq.{set-append_seam}
+use Rattle.std.proofs.lemmas.Option.{none-some, slice_get_past}
 use Rattle.std.proofs.lemmas.Bool.{lt-ltb}
 use Rattle.std.proofs.lemmas.List.{map-append, length-map}
 use Rattle.std.proofs.lemmas.List.FromFn.{length-range_with_len}
@@ -16,11 +17,13 @@ use Rattle.crsm_spec.specs.Step.{boot, first_boot, founding_boot, boot_again}
 use Rattle.crsm_spec.specs.World.{Site, World as Cluster, Moment, begin, first_lines, body_size, packets_size, send_lines, whole_step, after_step, log_at}
 use Rattle.crsm_spec.specs.Moments.{begun_at, with_room, start_at}
 use Rattle.crsm_world.specs.declared.world.World.{World}
-use Rattle.crsm_world.specs.Machines.{MachinesStand, roomed}
+use Rattle.crsm_world.specs.declared.machines.Machines.{Machines}
+use Rattle.crsm_world.specs.Machines.{IsNotUpAt, MachinesStand, roomed}
 use Rattle.crsm_sim_network.specs.Packets.{NetworkStands}
 use Rattle.crsm_world.specs.World.{Holds, Leads}
 use Rattle.crsm_world.specs.Starting.{CanStart}
 use Rattle.crsm_sim_network.proofs.Numbers.{range_more}
+use Rattle.crsm_world.proofs.Sites.{machines_length}
 use Rattle.crsm_world.proofs.Turns.{log_here}
 use Rattle.crsm_world.proofs.Booting.{room_is, log_down}
 
@@ -62,6 +65,14 @@ up_to i = range_more 0 i ∙ ap (λ j. range_with_len 0 i ++ j ∷ []) (let z : 
 
 part_long : (n i : ℕ) → length (map (site_of n) (range_with_len 0 i)) ≡ i
 part_long n i = length-map (range_with_len 0 i) (site_of n) ∙ length-range_with_len 0 i
+
+-- before its first boot there is no machine i
+pub none_yet : (n i : ℕ) (sites : Machines) → MachinesStand sites (part n i).n (part n i).sites → IsNotUpAt sites i
+unfolding part
+none_yet n i sites h m at =
+    let count = machines_length sites n (map (site_of n) (range_with_len 0 i)) h in
+    let long = part_long n i in
+    absurd (none-some m (sym (slice_get_past sites.items.items i (omega (arith, count, long))) ∙ at))
 
 room_of : (n i : ℕ) → roomed (part n i).sites i ≡ (part n i).sites ++ Site.Down [] ∷ []
 unfolding roomed part

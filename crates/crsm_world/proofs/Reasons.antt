@@ -1,6 +1,6 @@
 -- The reasons of refusals, one by one.
-use Rattle.std.proofs.Common.{◌≡◌, ◌<◌, ◌≤◌, ◌+◌, ℕ, zero, suc, Bool, true, false, ◌&&◌, ◌||◌, ◌==◌, not, cond, List, [], ◌∷◌, length, map, get_or, take, Option, Some, None, refl, ap, sym, ◌∙◌, arith, eq-eqb, ne_eqb}
-use Rattle.std.specs.Prelude.{nat_le, nat_lt, slice_get, option_map}
+use Rattle.std.proofs.Common.{◌≡◌, ◌<◌, ◌≤◌, ◌+◌, ℕ, zero, suc, Bool, true, false, ◌&&◌, ◌||◌, ◌==◌, not, cond, List, [], ◌∷◌, length, map, get_or, take, Option, Some, None, refl, ap, sym, ◌∙◌, subst, arith, eq-eqb, ne_eqb}
+use Rattle.std.specs.Prelude.{nat_le, nat_lt, slice_get, option_map, Result, Ok, Err, OnOk}
 use Rattle.std.specs.List.{list_any}
 use Rattle.std.specs.Option.{option_map_or}
 use Rattle.std.proofs.lemmas.Bool.{le-leb, lt-leb, leb-false}
@@ -11,7 +11,10 @@ use Rattle.crsm_spec.specs.World.{Site, Packet, World, is_up, is_up_at, log_at, 
 use Rattle.crsm_spec.specs.Log.{spec}
 use Rattle.crsm_sim_machine.specs.Outcomes.{spec_at}
 use Rattle.crsm_spec.specs.Possible.{first_bad, is_none_of, is_next_new, is_down_at, is_not_sent, is_receiver_down, is_used, receivers, are_mixed, are_too_few}
+use Rattle.crsm_schedule.specs.declared.Event.{Event}
+use Rattle.crsm_world.specs.declared.machines.Machines.{Machines}
 use Rattle.crsm_world.specs.Machines.{is_up_in, spec_in}
+use Rattle.crsm_world.specs.Starting.{IsReady}
 use Rattle.crsm_sim_network.specs.Packets.{is_used_at, receiver_of, receiver_or}
 
 -- the first cause holds
@@ -167,3 +170,12 @@ empty_is (x ∷ xs) e = absurd (omega arith)
 
 pub few_as : (spec ms ns : List ℕ) (o : Option (List ℕ)) (b x : Bool) → o ≡ Some spec → o ≡ Some ns → b ≡ are_too_few ns ms → b ≡ x → are_too_few spec ms ≡ x
 few_as spec ms ns o b x e f g h = let s : spec ≡ ns = cc in ap (λ ks. are_too_few ks ms) s ∙ sym g ∙ h
+
+-- ---- what an event needs
+
+pub ready_here : (sites : Machines) (e d : Event) → e ≡ d → IsReady d sites → IsReady e sites
+ready_here sites e d same h = subst (λ (f : Event). IsReady f sites) (sym same) h
+
+pub ready_any : {T E : Type 0} (r : Result T E) (sites : Machines) (e d : Event) → e ≡ d → IsReady d sites → OnOk r (IsReady e sites)
+ready_any (Ok x) sites e d same h = ready_here sites e d same h
+ready_any (Err x) sites e d same h = tt

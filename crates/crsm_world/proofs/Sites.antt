@@ -4,7 +4,7 @@ use Rattle.std.proofs.lemmas.Bool.{ltb-false}
 use Rattle.std.specs.Prelude.{slice_get, slice_set, is_some, IfSome, MatchOption}
 use Rattle.std.specs.Option.{option_map_or}
 use Rattle.std.specs.Vec.{with_item}
-use Rattle.std.proofs.lemmas.Option.{slice_get_past, slice_get-get_or}
+use Rattle.std.proofs.lemmas.Option.{none-some, same_Some, slice_get_past, slice_get_within, slice_get-get_or}
 use Rattle.std.proofs.lemmas.List.{length-set, length-append}
 use Rattle.crsm_spec.specs.World.{Site}
 use Rattle.crsm_sim_machine.specs.declared.Machine.{Machine}
@@ -28,7 +28,7 @@ use Rattle.crsm_sim_machine.specs.Machine.{MachineStands, MachinePends}
 use Rattle.crsm_port.specs.Memory.{Memory}
 use Rattle.crsm_world.specs.declared.machines.Machines.{Machines}
 use Rattle.crsm_world.specs.Machines.{EachIs, IsSite, MachinesStand, IsPending, IsSiteBeside, MachinesPend, MachinesCut, MachinesBoot, is_up_in, up_in, roomed}
-use Rattle.crsm_sim_network.proofs.Gets.{got}
+use Rattle.crsm_sim_network.proofs.Gets.{got, not_got}
 
 pub each_length : (P : ℕ → Machine → Site → Type 0) (k : ℕ) (ss : List Machine) (ps : List Site) → EachIs P k ss ps → length ss ≡ length ps
 each_length P k [] [] h = refl
@@ -140,6 +140,29 @@ up_none places k e = sym (ap (λ b. cond b (Some k) None) e)
 
 pub machines_length : (sites : Machines) (n : ℕ) (places : List Site) → MachinesStand sites n places → length sites.items.items ≡ length places
 machines_length sites n places h = each_length (IsSite n) 0 sites.items.items places h.each
+
+-- ---- which machine it is
+
+pub machine_here : (xs : List Machine) (k : ℕ) (s : Machine) → k < length xs → s ≡ get_or xs k s → slice_get xs k ≡ Some s
+machine_here xs k s l is = slice_get-get_or xs k s l ∙ ap Some (sym is)
+
+pub machine_is : (ys xs : List Machine) (k : ℕ) (s m : Machine) → ys ≡ xs → true ≡ ltb k (length ys) → s ≡ get_or ys k s → slice_get xs k ≡ Some m → s ≡ m
+machine_is ys xs k s m e b is at = same_Some s m (sym (got ys k s b is) ∙ ap (λ zs. slice_get zs k) e ∙ at)
+
+pub machine_none : (ys xs : List Machine) (k : ℕ) (m : Machine) → ys ≡ xs → false ≡ ltb k (length ys) → slice_get xs k ≡ Some m → ⊥
+machine_none ys xs k m e b at = none-some m (sym (not_got ys k b) ∙ ap (λ zs. slice_get zs k) e ∙ at)
+
+pub machine_replaced : (xs : List Machine) (k : ℕ) (t m : Machine) → slice_get (set xs k t) k ≡ Some m → t ≡ m
+machine_replaced [] k t m at = absurd (none-some m at)
+machine_replaced (x ∷ xs) zero t m at = same_Some t m at
+machine_replaced (x ∷ xs) (suc k) t m at = machine_replaced xs k t m at
+
+pub machine_last : (xs : List Machine) (k : ℕ) (t m : Machine) → k ≡ length xs → slice_get (xs ++ t ∷ []) k ≡ Some m → t ≡ m
+machine_last xs k t m e at = go xs (subst (λ (j : ℕ). slice_get (xs ++ t ∷ []) j ≡ Some m) e at)
+  where
+    go : (ys : List Machine) → slice_get (ys ++ t ∷ []) (length ys) ≡ Some m → t ≡ m
+    go [] at = same_Some t m at
+    go (y ∷ ys) at = go ys at
 
 -- ---- steps that are not kept yet
 
@@ -274,22 +297,24 @@ flush_set sites n places k steps s t h l is f =
 
 -- ---- the last lines
 
-pub finals_next : (sites : Machines) (n : ℕ) (places : List Site) (i : ℕ) (s : Machine) (lines : List Line) (line : Line) → MachinesStand sites n places → i < length sites.items.items
-    → s ≡ get_or sites.items.items i s → ((p : Site) → MachineStands s i n p → line ≡ final_line (i, p))
+pub finals_next : (places : List Site) (i : ℕ) (p : Site) (lines : List Line) (line : Line) → slice_get places i ≡ Some p → line ≡ final_line (i, p)
     → lines ≡ map final_line (take i (enumerate_from 0 places)) → lines ++ line ∷ [] ≡ map final_line (take (i + 1) (enumerate_from 0 places))
-finals_next sites n places i s lines line h l is f e =
-    let r = machine_got sites n places i s sites.items.items h refl (sym (lt-ltb i (length sites.items.items) l)) is in
-    let m : i < length (enumerate_from 0 places) = omega (arith, l, machines_length sites n places h, length-enumerate_from 0 places) in
-    let g : get_or (enumerate_from 0 places) i (i, r.0) ≡ (i, r.0) =
-    get_or-enumerate_from 0 places i (i, r.0) (omega (arith, l, machines_length sites n places h))
-    ∙ (let z : 0 + i ≡ i = omega arith in ap (λ j. (j, get_or places i r.0)) z) ∙ ap (λ q. (i, q)) (get_or_from_slice_get places i r.0 r.0 r.1) in
-    ap (λ ls. ls ++ line ∷ []) e ∙ ap (λ x. map final_line (take i (enumerate_from 0 places)) ++ x ∷ []) (f r.0 r.2)
-    ∙ sym (map-append final_line (take i (enumerate_from 0 places)) ((i, r.0) ∷ []))
-    ∙ ap (map final_line) (ap (λ x. take i (enumerate_from 0 places) ++ x ∷ []) (sym g) ∙ sym (take_more (enumerate_from 0 places) i (i, r.0) m))
+finals_next places i p lines line at is e =
+    let l = slice_get_within places i p at in
+    let m : i < length (enumerate_from 0 places) = omega (arith, l, length-enumerate_from 0 places) in
+    let g : get_or (enumerate_from 0 places) i (i, p) ≡ (i, p) =
+    get_or-enumerate_from 0 places i (i, p) l ∙ (let z : 0 + i ≡ i = omega arith in ap (λ j. (j, get_or places i p)) z) ∙ ap (λ q. (i, q)) (get_or_from_slice_get places i p p at) in
+    ap (λ ls. ls ++ line ∷ []) e ∙ ap (λ x. map final_line (take i (enumerate_from 0 places)) ++ x ∷ []) is
+    ∙ sym (map-append final_line (take i (enumerate_from 0 places)) ((i, p) ∷ []))
+    ∙ ap (map final_line) (ap (λ x. take i (enumerate_from 0 places) ++ x ∷ []) (sym g) ∙ sym (take_more (enumerate_from 0 places) i (i, p) m))
 
-pub finals_done : (sites : Machines) (n : ℕ) (places : List Site) (i : ℕ) → MachinesStand sites n places → length sites.items.items ≤ i
-    → map final_line (take i (enumerate_from 0 places)) ≡ map final_line (enumerate_from 0 places)
-finals_done sites n places i h l = ap (map final_line) (take_all i (enumerate_from 0 places) (omega (arith, l, machines_length sites n places h, length-enumerate_from 0 places)))
+pub finals_done : (places : List Site) (i : ℕ) → length places ≤ i → map final_line (take i (enumerate_from 0 places)) ≡ map final_line (enumerate_from 0 places)
+finals_done places i l = ap (map final_line) (take_all i (enumerate_from 0 places) (omega (arith, l, length-enumerate_from 0 places)))
+
+pub past_none : (places : List Site) (i : ℕ) → slice_get places i ≡ None → length places ≤ i
+past_none [] i e = omega arith
+past_none (p ∷ places) zero e = absurd (none-some p (sym e))
+past_none (p ∷ places) (suc i) e = omega (arith, past_none places i e)
 
 -- ---- numbers that fit
 
@@ -302,3 +327,14 @@ up_within (p ∷ places) (suc k) e = let l = up_within places k e in omega arith
 pub ok_from : {E : Type 0} (r : Result ℕ E) (P : Type 0) (v : ℕ) → OkIff r P v → P → result_ok r ≡ Some v
 ok_from {E} (Ok x) P v i p = let e : P × (x ≡ v) = OkIff-at_ok {E = E} (Ok x) P v x i refl in ap Some e.1
 ok_from {E} (Err d) P v i p = absurd (OkIff-at_err {E = E} (Err d) P v d i refl p)
+
+pub number_is : {E : Type 0} (r : Result ℕ E) (P : Type 0) (v : ℕ) → OkIff r P v → IfSome (result_ok r) (λ j. j ≡ v)
+number_is {E} (Ok x) P v i = let e : P × (x ≡ v) = OkIff-at_ok {E = E} (Ok x) P v x i refl in e.1
+number_is {E} (Err d) P v i = tt
+
+pub some_as : (r o : Option ℕ) (Q : ℕ → Type 0) (v : ℕ) → r ≡ o → IfSome o (λ j. j ≡ v) → Q v → IfSome r Q
+some_as r o Q v e is q = subst (λ (x : Option ℕ). IfSome x Q) (sym e) (go o is)
+  where
+    go : (x : Option ℕ) → IfSome x (λ j. j ≡ v) → IfSome x Q
+    go None is = tt
+    go (Some j) is = subst Q (sym is) q

@@ -1,10 +1,11 @@
 -- The effects of a replica's turn.
-use Rattle.std.proofs.Common.{◌≡◌, ℕ, zero, suc, true, false, cond, List, [], ◌∷◌, set, Option, Some, None, refl, ap, ◌∙◌}
+use Rattle.std.proofs.Common.{◌≡◌, ◌≤◌, ℕ, zero, suc, true, false, cond, List, [], ◌∷◌, set, length, take, take_all, Option, Some, None, refl, ap, arith, ◌∙◌}
 use Rattle.std.specs.Prelude.{slice_get, option_map}
 use Rattle.std.specs.Option.{option_map_or}
 use Rattle.crsm_base.specs.Messages.{datagram_bytes, FitsDatagram}
 use Rattle.crsm_base.specs.MessageReading.{datagram_of}
 use Rattle.crsm_base.proofs.DatagramLaws.{datagram_of-bytes}
+use Rattle.crsm_replica_io.proofs.Lengths.{datagram_short}
 use Rattle.crsm_spec.specs.Types.{Datagram}
 use Rattle.crsm_spec.specs.Replica.{Replica}
 use Rattle.crsm_spec.specs.Draft.{Draft, begun}
@@ -48,6 +49,10 @@ unfolding turn_at turn_at_machine
 turn_here ends v k t reading r e = ap (turn_at_machine ends v k t reading) e
 
 -- ---- inputs
+
+-- a datagram fits in the receive buffer
+pub view_short : (m : PacketView) (p : Packet) → IsPacketView m p → take 8192 m.bytes.now ≡ m.bytes.now
+view_short m p is = let long = ap length is.bytes in let short : length (datagram_bytes p.datagram) ≤ 8183 = datagram_short p.datagram is.fits in take_all 8192 m.bytes.now (omega (arith, long, short))
 
 pub turn_datagram : (ends : Ending) (v : World) (k from : ℕ) (d : Datagram) (reading : ℕ) → FitsDatagram d → turn_at ends v k (Turn.In from (datagram_bytes d)) reading ≡ step_at ends v k (Input.Came from d) reading
 unfolding turn_at turn_at_machine step_at step_at_site turn input_of

@@ -10,7 +10,7 @@ use Rattle.crsm_sim_machine.specs.declared.Machine.{Machine}
 use Rattle.crsm_sim_machine.specs.declared.Step.{Step}
 use Rattle.crsm_sim_machine.specs.declared.Boot.{Boot}
 use Rattle.crsm_sim_machine.specs.Outcomes.{IsWell, Makes, Sends, Boots, is_cut_kept, spec_at}
-use Rattle.crsm_sim_machine.specs.Machine.{MachineStands, MachinePends}
+use Rattle.crsm_sim_machine.specs.Machine.{IsNotDown, IsNotUp, MachineStands, MachinePends}
 use Rattle.crsm_world.specs.declared.machines.Machines.{Machines}
 
 -- each machine is held as this says, by number from k
@@ -80,6 +80,13 @@ is_up_in places k = option_map_or is_up (slice_get places k) false
 -- its number, where it is up
 unfoldable pub up_in : List Site → ℕ → Option ℕ
 up_in places k = if is_up_in places k then Some k else None
+
+-- machine k is not down, and machine k is not up, if there is one; it is neither where memory ran out
+abbrev pub IsNotDownAt : Machines → ℕ → Type 0
+IsNotDownAt machines k = (machine : Machine) → slice_get machines.items.items k ≡ Some machine → IsNotDown machine
+
+abbrev pub IsNotUpAt : Machines → ℕ → Type 0
+IsNotUpAt machines k = (machine : Machine) → slice_get machines.items.items k ≡ Some machine → IsNotUp machine
 
 -- for the sites that the machines are
 abbrev pub WhereMachinesStand : Machines → (ℕ → List Site → Type 0) → Type 0

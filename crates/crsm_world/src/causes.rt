@@ -1,6 +1,6 @@
 //! The checks whether an event is possible, in the order of their reasons.
 
-ghost use Rattle.std.specs.Prelude.{◌≡◌, [], ◌∷◌, ◌==◌, not, true, false, is_some, ℕ};
+ghost use Rattle.std.specs.Prelude.{◌≡◌, [], ◌∷◌, ◌==◌, not, true, false, is_some, ℕ, OnOk};
 ghost use Rattle.std.specs.List.{list_any};
 ghost use Rattle.crsm_sim_network.specs.Packets.{receiver_or};
 ghost use Rattle.crsm_spec.specs.Possible as possible;
@@ -9,7 +9,9 @@ ghost use Rattle.crsm_spec.specs.Log.{spec};
 ghost use Rattle.crsm_base.specs.MessageReading.{datagram_of};
 ghost use Rattle.crsm_spec.specs.Acts.{Act, Single as OneStep, Bad as Cause};
 ghost use Rattle.crsm_world.specs.Doing.{act_of, single_of};
+ghost use Rattle.crsm_world.specs.Machines.{IsNotUpAt};
 ghost use Rattle.crsm_world.specs.Refusing.{Answers};
+ghost use Rattle.crsm_world.specs.Starting.{IsReady};
 ghost use Rattle.crsm_world.specs.World.{Holds, WhereHolds};
 
 use crate::bad::Bad;
@@ -90,7 +92,8 @@ impl World {
 
     /// Checks that a replica can boot.
     fn check_start(&self, k: u64) -> Result<(), Bad>
-        ensures { WhereHolds self.now (λ v. Answers result (possible.first_bad (possible.causes_of v (Act.Start k)))) }
+        ensures answers { WhereHolds self.now (λ v. Answers result (possible.first_bad (possible.causes_of v (Act.Start k)))) }
+        ensures ready { OnOk result (IsNotUpAt self.now.sites k) }
     {
         let count = self.sites.count();
         if is_none(count, k) {
@@ -267,7 +270,8 @@ impl World {
 
     /// Checks that an event is possible in a world that is not full.
     fn check_event(&self, event: &Event) -> Result<(), Bad>
-        ensures { WhereHolds self.now (λ v. Answers result (possible.first_bad (possible.causes_of v (act_of event.now)))) }
+        ensures answers { WhereHolds self.now (λ v. Answers result (possible.first_bad (possible.causes_of v (act_of event.now)))) }
+        ensures ready { OnOk result (IsReady event.now self.now.sites) }
     {
         match event {
             Event::One { single } => self.check_single(single),
@@ -285,7 +289,8 @@ impl World {
 
     /// Checks that an event is possible. The error is the first reason why it is not.
     pub(crate) fn check(&self, event: &Event) -> Result<(), Bad>
-        ensures { WhereHolds self.now (λ v. Answers result (possible.possible v (act_of event.now))) }
+        ensures answers { WhereHolds self.now (λ v. Answers result (possible.possible v (act_of event.now))) }
+        ensures ready { OnOk result (IsReady event.now self.now.sites) }
     {
         if self.network.is_full() {
             return Err(Bad::Full {

@@ -1,7 +1,7 @@
 //! The events of one replica: deliveries, requests, ticks and suspicions.
 
-ghost use Rattle.std.specs.Prelude.{◌≡◌, ◌<◌, None, Some, ℕ, fold, drop, length, slice_get, IfOk, OnOk};
-ghost use Rattle.crsm_sim_machine.specs.Arriving.{turn_of, IsShort};
+ghost use Rattle.std.specs.Prelude.{◌≡◌, ◌<◌, ◌≤◌, None, Some, ℕ, fold, drop, length, slice_get, IfOk, OnOk};
+ghost use Rattle.crsm_sim_machine.specs.Arriving.{turn_of};
 ghost use Rattle.crsm_base.specs.Spelling.{FitsCommand};
 ghost use Rattle.crsm_schedule.specs.Grammar.{FitsSingle};
 ghost use Rattle.crsm_spec.specs.Acts.{Single as OneStep};
@@ -16,7 +16,7 @@ ghost use Rattle.crsm_world.specs.Turning.{ending_of, FitsEnding, IsGenuine, tur
 use crate::ending::Ending;
 use crate::outgoing::leave;
 use crate::world::World;
-use crsm_base::{Bytes, Command, Datagram, Lines, MAX_DATAGRAM_BYTES, NoMemory, never};
+use crsm_base::{Bytes, Command, Datagram, Lines, NoMemory};
 use crsm_schedule::Single;
 use crsm_sim_machine::Arrival;
 use crsm_wire::write_datagram;
@@ -31,8 +31,7 @@ impl World {
         reading: u64,
         lines: &mut Lines,
     ) -> Result<(), NoMemory>
-        requires ends { FitsEnding ending }
-        requires short { IsShort arrival }
+        requires { FitsEnding ending }
         ensures { OnOk result (WhereHolds self.old (λ v.
             LeadsOn (turn_at (ending_of ending) v k (turn_of arrival.entry) reading) self.new.sites self.new.network lines.old lines.new)) }
     {
@@ -47,7 +46,7 @@ impl World {
         Ok(())
     }
 
-    /// Delivers bytes from an address to a replica.
+    /// Delivers bytes from an address to a replica. They are no longer than a datagram.
     fn bytes_arrive(
         &mut self,
         k: u64,
@@ -57,14 +56,11 @@ impl World {
         reading: u64,
         lines: &mut Lines,
     ) -> Result<(), NoMemory>
-        requires { FitsEnding ending }
+        requires ends { FitsEnding ending }
+        requires short { length bytes.now ≤ 8192 }
         ensures { OnOk result (WhereHolds self.old (λ v.
             LeadsOn (turn_at (ending_of ending) v k (Turn.In from bytes.now) reading) self.new.sites self.new.network lines.old lines.new)) }
     {
-        // No datagram is longer.
-        if bytes.len() > MAX_DATAGRAM_BYTES as usize {
-            return Err(never());
-        }
         let arrival = Arrival::Bytes { from, bytes };
         self.arrive(k, ending, arrival, reading, lines)?;
         Ok(())
@@ -85,10 +81,6 @@ impl World {
         let Some(packet) = self.network.packet(number) else {
             return Ok(());
         };
-        // No datagram is longer.
-        if packet.bytes.len() > MAX_DATAGRAM_BYTES as usize {
-            return Err(never());
-        }
         let arrival = Arrival::Bytes {
             from: u64::from(packet.from),
             bytes: packet.bytes,

@@ -1,14 +1,14 @@
 //! Steps of replicas with each ending.
 
 ghost use Rattle.std.specs.Prelude.{◌≡◌, ◌≤◌, ◌<◌, Some, length, slice_get, IfOk};
-ghost use Rattle.crsm_sim_machine.specs.Arriving.{turn_of, IsShort};
+ghost use Rattle.crsm_sim_machine.specs.Arriving.{turn_of};
 ghost use Rattle.crsm_spec.specs.Moments as moments;
 ghost use Rattle.crsm_spec.specs.Node.{turn};
 ghost use Rattle.crsm_spec.specs.Replica.{Replica};
 ghost use Rattle.crsm_spec.specs.World as on_paper;
 ghost use Rattle.crsm_world.specs.Effects.{Leaves, FitsEffects, WhereUpIn};
 ghost use Rattle.crsm_world.specs.Turning.{ending_of, FitsEnding, turn_at};
-ghost use Rattle.crsm_world.specs.Machines.{MachinesStand};
+ghost use Rattle.crsm_world.specs.Machines.{IsNotDownAt, MachinesStand};
 
 use crate::ending::{Effects, Ending, StepStop};
 use crate::machines::Machines;
@@ -24,7 +24,7 @@ impl Machines {
         reading: u64,
     ) -> Result<Effects, NoMemory>
         requires within { k < length self.old.items.items }
-        requires short { IsShort arrival }
+        requires up { IsNotDownAt self.old k }
         ensures leaves { IfOk result (λ effects. WhereUpIn self.old k (λ v r.
             Leaves (on_paper.whole_step v k (turn r (turn_of arrival.entry, reading))) v effects self.new)) }
         ensures spelt { IfOk result (λ effects. FitsEffects effects) }
@@ -43,7 +43,7 @@ impl Machines {
         reading: u64,
     ) -> Result<Effects, NoMemory>
         requires within { k < length self.old.items.items }
-        requires short { IsShort arrival }
+        requires up { IsNotDownAt self.old k }
         ensures leaves { IfOk result (λ effects. WhereUpIn self.old k (λ v r.
             Leaves (on_paper.cut_step sends v k (turn r (turn_of arrival.entry, reading))) v effects self.new)) }
         ensures spelt { IfOk result (λ effects. FitsEffects effects) }
@@ -79,7 +79,7 @@ impl Machines {
     ) -> Result<Effects, NoMemory>
         requires within { k < length self.old.items.items }
         requires calls { stop.calls ≤ 4 }
-        requires short { IsShort arrival }
+        requires up { IsNotDownAt self.old k }
         ensures leaves { IfOk result (λ effects. WhereUpIn self.old k (λ v r.
             Leaves (moments.cut_at stop.calls stop.fill v k (turn r (turn_of arrival.entry, reading))) v effects self.new)) }
         ensures spelt { IfOk result (λ effects. FitsEffects effects) }
@@ -104,8 +104,7 @@ impl Machines {
         arrival: Arrival<'_>,
         reading: u64,
     ) -> Result<Effects, NoMemory>
-        requires ends { FitsEnding ending }
-        requires short { IsShort arrival }
+        requires { FitsEnding ending }
         ensures leaves { IfOk result (λ effects. (v : on_paper.World) → MachinesStand self.old v.n v.sites →
             Leaves (turn_at (ending_of ending) v k (turn_of arrival.entry) reading) v effects self.new) }
         ensures spelt { IfOk result (λ effects. FitsEffects effects) }

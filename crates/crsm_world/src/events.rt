@@ -7,8 +7,9 @@ ghost use Rattle.crsm_spec.specs.Acts.{Act};
 ghost use Rattle.crsm_spec.specs.Possible.{possible};
 ghost use Rattle.crsm_spec.specs.World as on_paper;
 ghost use Rattle.crsm_world.specs.Doing.{act_of};
+ghost use Rattle.crsm_world.specs.Machines.{IsNotUpAt};
 ghost use Rattle.crsm_world.specs.World.{Holds, Leads, WhereHolds};
-ghost use Rattle.crsm_world.specs.Starting.{CanStart};
+ghost use Rattle.crsm_world.specs.Starting.{CanStart, IsReady};
 
 use crate::ending::{Ending, StepStop};
 use crate::outgoing::leave;
@@ -46,6 +47,7 @@ impl World {
 
     /// Boots a replica that is down, or the next new one.
     pub(crate) fn start(&mut self, replica: u64) -> Result<Lines, NoMemory>
+        requires { IsNotUpAt self.old.sites replica }
         ensures { IfOk result (λ lines. WhereHolds self.old (λ v. CanStart v replica → Leads (start_at v replica) self.new lines)) }
     {
         let Some(boot) = self.sites.start(replica)? else {
@@ -57,7 +59,8 @@ impl World {
 
     /// Executes an event that is possible, and returns its lines.
     pub(crate) fn happen(&mut self, event: &Event) -> Result<Lines, NoMemory>
-        requires { FitsEvent event.now }
+        requires fits { FitsEvent event.now }
+        requires ready { IsReady event.now self.old.sites }
         ensures { IfOk result (λ lines. WhereHolds self.old (λ v. possible v (act_of event.now) ≡ None → Leads (act v (act_of event.now)) self.new lines)) }
     {
         match event {

@@ -5,13 +5,14 @@ ghost use Rattle.std.specs.List.{AllByRecursion};
 ghost use Rattle.crsm_spec.specs.Moments as moments;
 ghost use Rattle.crsm_spec.specs.Replica.{Replica};
 ghost use Rattle.crsm_spec.specs.World as on_paper;
+ghost use Rattle.crsm_world.specs.Machines.{IsNotDownAt};
 ghost use Rattle.crsm_world.specs.World.{Holds, Leads, WhereHolds, WhereHeldBeside, WhereHeldUp, WhereSomeUp};
 ghost use Rattle.crsm_world.specs.Several.{AreFor, FitsTaken, TakesOne, TookAll, WhereTaken, all_gone, each_gone, number_of};
 
 use crate::ending::Ending;
 use crate::outgoing::let_all_out;
 use crate::world::World;
-use crsm_base::{Lines, MAX_DATAGRAM_BYTES, NoMemory, never};
+use crsm_base::{Lines, NoMemory, never};
 use crsm_sim_machine::{Arrival, Step, machines_pend_nothing};
 
 /// A datagram that was delivered, and the output of its step.
@@ -48,20 +49,18 @@ impl World {
 
     /// Delivers a datagram to replica `k`, which is up, in one of the steps that become durable together.
     fn take(&mut self, k: u32, number: u64, reading: u64) -> Result<DeliveredStep, NoMemory>
-        requires { k < length self.old.sites.items.items }
+        requires within { k < length self.old.sites.items.items }
+        requires up { IsNotDownAt self.old.sites k }
         ensures number { IfOk result (λ taken. taken.number ≡ number) }
         ensures stands { IfOk result (λ taken. WhereHeldBeside self.old k (TakesOne k reading number self.new taken)) }
         ensures spelt { IfOk result (λ taken. FitsTaken taken) }
         ensures count { OnOk result (length self.new.sites.items.items ≡ length self.old.sites.items.items) }
+        ensures up { OnOk result (IsNotDownAt self.new.sites k) }
     {
         // A group has only datagrams that were sent.
         let Some(packet) = self.network.packet(number) else {
             return Err(never());
         };
-        // No datagram is longer.
-        if packet.bytes.len() > MAX_DATAGRAM_BYTES as usize {
-            return Err(never());
-        }
         let arrival = Arrival::Bytes {
             from: u64::from(packet.from),
             bytes: packet.bytes,
@@ -77,10 +76,12 @@ impl World {
         reading: u64,
         numbers: &[u64],
     ) -> Result<Vec<DeliveredStep>, NoMemory>
-        requires { k < length self.old.sites.items.items }
+        requires within { k < length self.old.sites.items.items }
+        requires up { IsNotDownAt self.old.sites k }
         ensures takes { IfOk result (λ taken. WhereHeldUp self.old k (λ v r. AreFor k v.packets numbers.now → TookAll k reading v numbers.now self.new taken.items)) }
         ensures spelt { IfOk result (λ taken. AllByRecursion FitsTaken taken.items) }
         ensures count { OnOk result (length self.new.sites.items.items ≡ length self.old.sites.items.items) }
+        ensures up { OnOk result (IsNotDownAt self.new.sites k) }
     {
         machines_pend_nothing();
         let mut taken = Vec::new(self.alloc);
@@ -106,9 +107,8 @@ impl World {
         let mut place = first;
         for one in taken {
             let DeliveredStep { number, step } = one;
-            let next = behind(place, &step)?;
             self.network.use_up(number);
-            let_all_out(
+            let next = let_all_out(
                 self.alloc,
                 &mut self.network,
                 k,
@@ -124,7 +124,8 @@ impl World {
 
     /// Delivers these datagrams to replica `k`, which is up: their steps become durable together.
     fn deliver_to(&mut self, k: u32, reading: u64, numbers: &[u64]) -> Result<Lines, NoMemory>
-        requires { k < length self.old.sites.items.items }
+        requires within { k < length self.old.sites.items.items }
+        requires up { IsNotDownAt self.old.sites k }
         ensures { IfOk result (λ lines. WhereHeldUp self.old k (λ v r. AreFor k v.packets numbers.now →
             Leads (all_gone reading numbers.now v) self.new lines)) }
     {
@@ -177,13 +178,4 @@ impl World {
         self.go(Ending::Lost, *first, reading, &mut lines)?;
         Ok(lines)
     }
-}
-
-/// Returns the index on a port after the datagrams that a step has sent from index `place` on.
-fn behind(place: usize, step: &Step) -> Result<usize, NoMemory>
-    ensures { IfOk result (λ next. next ≡ place + length step.now.batch.sends) }
-{
-    let count = step.batch.sends.as_slice().len();
-    // Whatever has an index is in memory.
-    place.checked_add(count).ok_or(never())
 }

@@ -1,6 +1,6 @@
 //! The machines of the replicas.
 
-ghost use Rattle.std.specs.Prelude.{◌≡◌, ◌≤◌, ◌<◌, [], ℕ, List, length, map, Some, None, slice_get, slice_set, IfOk, IfSome, IsTrue, MatchOption, OnOk};
+ghost use Rattle.std.specs.Prelude.{◌≡◌, ◌≤◌, ◌<◌, [], ℕ, List, length, map, Some, None, slice_get, slice_set, IfOk, IfSome, IsTrue, false, MatchOption, OnOk};
 ghost use Rattle.std.specs.List.{AllByRecursion, enumerate_from};
 ghost use Rattle.crsm_core.specs.Core.{FitsSent};
 ghost use Rattle.crsm_spec.specs.Draft.{Draft};
@@ -8,15 +8,15 @@ ghost use Rattle.crsm_spec.specs.Log.{Log};
 ghost use Rattle.crsm_spec.specs.Node.{turn};
 ghost use Rattle.crsm_spec.specs.Replica.{Replica};
 ghost use Rattle.crsm_spec.specs.World as on_paper;
-ghost use Rattle.crsm_sim_machine.specs.Arriving.{turn_of, IsShort};
+ghost use Rattle.crsm_sim_machine.specs.Arriving.{turn_of};
 ghost use Rattle.crsm_sim_machine.specs.Outcomes.{Makes, Sends};
 ghost use Rattle.crsm_sim_machine.specs.Machine.{MachineStands};
 ghost use Rattle.crsm_port.specs.Sent.{packets_of};
-ghost use Rattle.crsm_world.specs.Machines.{MachinesStand, MachinesPend, MachinesCut, MachinesBoot, is_up_in, up_in, roomed, spec_in, WhereMachinesStand, WhereUp, WherePending, StepsTo, PendsTo, WhereSite, CanBoot};
+ghost use Rattle.crsm_world.specs.Machines.{IsNotDownAt, IsNotUpAt, MachinesStand, MachinesPend, MachinesCut, MachinesBoot, is_up_in, up_in, roomed, spec_in, WhereMachinesStand, WhereUp, WherePending, StepsTo, PendsTo, WhereSite, CanBoot};
 
 use crate::ending::StepStop;
 use crate::founders::Founders;
-use crsm_base::{Line, Lines, MAX_REPLICAS, Members, NoMemory, never};
+use crsm_base::{Line, Lines, MAX_REPLICAS, Members, NoMemory};
 use crsm_port::{MemPort, SentPackets};
 use crsm_sim_machine::{Arrival, Boot, Machine, Step};
 use std::alloc::Global;
@@ -75,6 +75,8 @@ impl Machines {
     pub fn is_up(&self, k: u64) -> bool
         ensures up { WhereMachinesStand self.now (λ n places. result ≡ is_up_in places k) }
         ensures within { IsTrue result → k < length self.now.items.items }
+        ensures not_down { IsTrue result → IsNotDownAt self.now k }
+        ensures not_up { result ≡ false → IsNotUpAt self.now k }
     {
         match self.items.get(k as usize) {
             Some(machine) => machine.is_up(),
@@ -86,6 +88,7 @@ impl Machines {
     pub fn up(&self, k: u64) -> Option<u32>
         ensures up { WhereMachinesStand self.now (λ n places. result ≡ up_in places k) }
         ensures within { IfSome result (λ j. j < length self.now.items.items) }
+        ensures not_down { IfSome result (λ j. IsNotDownAt self.now j) }
     {
         if !self.is_up(k) {
             return None;
@@ -114,7 +117,7 @@ impl Machines {
         reading: u64,
     ) -> Result<(Step, usize), NoMemory>
         requires within { k < length self.old.items.items }
-        requires short { IsShort arrival }
+        requires up { IsNotDownAt self.old k }
         ensures stands { IfOk result (λ made. WhereUp self.old k (λ n places r.
             StepsTo made.0 made.1 (turn r (turn_of arrival.entry, reading)) self.new n places k)) }
         ensures spelt { IfOk result (λ made. AllByRecursion FitsSent made.0.batch.sends) }
@@ -135,7 +138,7 @@ impl Machines {
     ) -> Result<Option<Step>, NoMemory>
         requires within { k < length self.old.items.items }
         requires calls { stop.calls ≤ 4 }
-        requires short { IsShort arrival }
+        requires up { IsNotDownAt self.old k }
         ensures stands { IfOk result (λ step. WhereUp self.old k (λ n places r.
             MachinesCut stop.calls stop.fill n places k r (turn r (turn_of arrival.entry, reading)) step self.new)) }
         ensures spelt { IfOk result (λ step. IfSome step (λ s. AllByRecursion FitsSent s.batch.sends)) }
@@ -156,7 +159,8 @@ impl Machines {
 
     /// Makes room for the next new replica, if `k` is its number.
     fn make_room(&mut self, k: u64) -> Result<(), NoMemory>
-        ensures { OnOk result (WhereMachinesStand self.old (λ n places. k < 15 → MachinesStand self.new n (roomed places k))) }
+        ensures stands { OnOk result (WhereMachinesStand self.old (λ n places. k < 15 → MachinesStand self.new n (roomed places k))) }
+        ensures not_up { OnOk result (IsNotUpAt self.old k → IsNotUpAt self.new k) }
     {
         let count = self.items.len() as u64;
         if k == count && k < u64::from(MAX_REPLICAS) {
@@ -169,6 +173,7 @@ impl Machines {
     /// Boots a replica that is down on its disk, or the next new one on an empty disk, and returns the boot's output.
     /// `None` if there can be no such replica; `NoMemory` if memory runs out.
     pub fn start(&mut self, k: u64) -> Result<Option<Boot>, NoMemory>
+        requires { IsNotUpAt self.old k }
         ensures { IfOk result (λ boot. WhereMachinesStand self.old (λ n places. k < 15 → (log : Log) → CanBoot places k log →
             MachinesBoot n (roomed places k) k log boot self.new)) }
     {
@@ -184,11 +189,12 @@ impl Machines {
     /// out.
     pub fn take(&mut self, k: u32, arrival: Arrival<'_>, reading: u64) -> Result<Step, NoMemory>
         requires within { k < length self.old.items.items }
-        requires short { IsShort arrival }
+        requires up { IsNotDownAt self.old k }
         ensures stands { IfOk result (λ step. WherePending self.old k (λ n places r steps.
             PendsTo step steps (turn r (turn_of arrival.entry, reading)) self.new n places k)) }
         ensures spelt { IfOk result (λ step. AllByRecursion FitsSent step.batch.sends) }
         ensures count { length self.new.items.items ≡ length self.old.items.items }
+        ensures up { OnOk result (IsNotDownAt self.new k) }
     {
         let step = self.items[k as usize].take(arrival, reading)?;
         Ok(step)
@@ -197,7 +203,8 @@ impl Machines {
     /// Makes the records of the steps that a replica took durable, and returns the index on the port of the first
     /// datagram that they sent. `NoMemory` if memory runs out.
     pub fn flush(&mut self, k: u32) -> Result<usize, NoMemory>
-        requires { k < length self.old.items.items }
+        requires within { k < length self.old.items.items }
+        requires up { IsNotDownAt self.old k }
         ensures { IfOk result (λ first. (n : ℕ) (places : List on_paper.Site) (steps : List Draft) → MachinesPend k steps self.old n places → Sends self.new.port first steps × MachinesStand self.new n places) }
     {
         let first = self.items[k as usize].flush(&mut self.port)?;
@@ -232,10 +239,9 @@ impl Machines {
         ensures { IfOk result (λ lines. WhereMachinesStand self.now (λ n places. lines ≡ map on_paper.final_line (enumerate_from 0 places))) }
     {
         let mut lines = Lines::new(self.alloc);
-        for (k, machine) in self.items.iter().enumerate() {
-            // There are at most 15.
-            let Ok(replica) = u32::try_from(k) else {
-                return Err(never());
+        for replica in 0..MAX_REPLICAS {
+            let Some(machine) = self.get(u64::from(replica)) else {
+                return Ok(lines);
             };
             lines.push(self.final_line(replica, machine))?;
         }

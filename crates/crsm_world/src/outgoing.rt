@@ -1,6 +1,6 @@
 //! The sending of a step's output.
 
-ghost use Rattle.std.specs.Prelude.{◌≡◌, ◌≤◌, ◌-◌, ◌++◌, ℕ, List, drop, length, take, OnOk};
+ghost use Rattle.std.specs.Prelude.{◌≡◌, ◌≤◌, ◌+◌, ◌-◌, ◌++◌, ℕ, List, drop, length, min, take, IfOk, OnOk};
 ghost use Rattle.std.specs.List.{AllByRecursion};
 ghost use Rattle.crsm_core.specs.Core.{FitsSent};
 ghost use Rattle.crsm_sim_machine.specs.Outcomes.{Makes};
@@ -19,7 +19,8 @@ use crsm_sim_network::{Network, packets_in};
 use std::alloc::Global;
 
 /// Sends the first datagrams and replies of a durable step of replica `k`, which a port has sent from index `first` on.
-/// The step's own lines are appended first, then those of the datagrams, then those of the replies.
+/// The step's own lines are appended first, then those of the datagrams, then those of the replies. Returns the index
+/// on the port behind those that were sent.
 pub(crate) fn let_out(
     alloc: Global,
     network: &mut Network,
@@ -29,10 +30,11 @@ pub(crate) fn let_out(
     sent: &SentPackets,
     first: usize,
     lines: &mut Lines,
-) -> Result<(), NoMemory>
+) -> Result<usize, NoMemory>
     requires { AllByRecursion FitsSent step.batch.sends }
-    ensures { OnOk result (WhereMade network.old step (λ packets bytes x. AreSpelt (take count step.batch.sends) (packets_of sent.now) first →
+    ensures stands { OnOk result (WhereMade network.old step (λ packets bytes x. AreSpelt (take count step.batch.sends) (packets_of sent.now) first →
         LetsOutSome count lines.old packets bytes k x network.new lines.new)) }
+    ensures behind { IfOk result (λ next. next ≡ first + min count (length step.batch.sends)) }
 {
     let mut step = step;
     let made = step.batch.sends.as_slice().len();
@@ -42,10 +44,10 @@ pub(crate) fn let_out(
     let out = count.min(made as u64) as usize;
     add_first(alloc, &mut step.batch.lines, own, lines)?;
     network.keep(step.size)?;
-    network.send_all(k, &step.batch.sends.as_slice()[..out], sent, first, lines)?;
+    let next = network.send_all(k, &step.batch.sends.as_slice()[..out], sent, first, lines)?;
     let shown = out.saturating_sub(packets);
     add_replies(alloc, &step.batch.lines, own, shown, lines)?;
-    Ok(())
+    Ok(next)
 }
 
 /// Appends the lines of the first replies, as many as are sent. They come after the step's own lines.
@@ -73,14 +75,15 @@ pub(crate) fn let_all_out(
     sent: &SentPackets,
     first: usize,
     lines: &mut Lines,
-) -> Result<(), NoMemory>
+) -> Result<usize, NoMemory>
     requires { AllByRecursion FitsSent step.batch.sends }
-    ensures { OnOk result (WhereMade network.old step (λ packets bytes x. AreSpelt step.batch.sends (packets_of sent.now) first →
+    ensures behind { IfOk result (λ next. next ≡ first + length step.batch.sends) }
+    ensures stands { OnOk result (WhereMade network.old step (λ packets bytes x. AreSpelt step.batch.sends (packets_of sent.now) first →
         LetsOut lines.old packets bytes k x x.sends x.replies network.new lines.new)) }
 {
     let all = step.batch.sends.as_slice().len() as u64;
-    let_out(alloc, network, k, step, all, sent, first, lines)?;
-    Ok(())
+    let next = let_out(alloc, network, k, step, all, sent, first, lines)?;
+    Ok(next)
 }
 
 /// Sends the effects of an arrival and appends their lines. The port of all replicas has sent the datagrams.

@@ -16,7 +16,7 @@ returns-clause-sent c me n kept r steps h well =
 pub flush-requires : goal.flush-requires
 flush-requires c =
     ∥∥₁_map
-    c.requires.up
+    c.requires
     (λ up.
     let h = up.2 in
     let t = c.in_ok-step.ensures.stands up.0 up.1 h.kept h.replica h.steps h.is in

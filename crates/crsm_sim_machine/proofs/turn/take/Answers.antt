@@ -19,7 +19,7 @@ returns-in-Ok-clause-stands c me n kept r steps up =
     let made = c.in-Ok.ensures.stands kept r steps up.stands in
     let reading : t.reading ≡ c.args.reading = c.in-Ok.ensures.clock.is in
     let came : turn_taken (buffer_of c.take.new.self) t.taken ≡ turn_of c.args.arrival =
-    turn_arrives c.args.arrival c.wanted-what.result.1 c.take.new.port c.wanted-what.result.0 (buffer_of c.take.new.self) t.taken c.requires.short c.wanted-what.ensures c.in-Ok.ensures.port in
+    turn_arrives c.args.arrival c.wanted-what.result.1 c.take.new.port c.wanted-what.result.0 (buffer_of c.take.new.self) t.taken c.wanted-what.ensures c.in-Ok.ensures.port in
     let same : (turn_taken (buffer_of c.take.new.self) t.taken, t.reading) ≡ (turn_of c.args.arrival, c.args.reading) =
     ap (λ (x : Turn). (x, t.reading)) came ∙ ap (λ (x : ℕ). (turn_of c.args.arrival, x)) reading in
     let P : Turn × ℕ → Type 0 = λ q.
@@ -42,7 +42,7 @@ returns-in-Ok-clause-stands c me n kept r steps up =
 
 pub unreachable-requires : goal.unreachable-requires
 unreachable-requires c =
-    not_there c.requires.up (λ up.
+    not_there c.requires (λ up.
     let h = up.2 in
     not_failed c.args.shell.now h.kept h.replica h.steps h.is.stands (c.in-Err-Failed.ensures.failed.0 (ap Err c.in-Err-Failed.field-0-is)))
 

@@ -4,7 +4,7 @@ use Rattle.crsm_spec.specs.Node.{turn}
 use Rattle.crsm_spec.specs.World.{Site}
 use Rattle.crsm_sim_machine.specs.Arriving.{turn_of}
 use Rattle.crsm_sim_machine.specs.Machine.{MachineStands}
-use Rattle.crsm_sim_machine.specs.States.{IsIn, IsStateOf}
+use Rattle.crsm_sim_machine.specs.States.{IsIn, IsStateOf, IsUpOrSpent}
 use Rattle.crsm_sim_machine.proofs.Cuts.{cut_machine}
 use Rattle.crsm_sim_machine.proofs.machine.Machine.cut_at.Goals as goal
 
@@ -28,3 +28,8 @@ invariant_of-self-in-Up-clause-stands c =
     let i = c.args.self.now.me in
     let j = c.args.self.now.n in
     ∥∥₁_map (subst (λ p. ∥ IsStateOf i j p ∥₁) (sym c.in-Up.ensures.value) c.args.self.now.stands) (λ h. c.in_ok-step-in-Up.ensures.log i j h)
+
+-- ---- what it is not asked for
+
+pub unreachable-requires : goal.unreachable-requires
+unreachable-requires c = subst (λ p. IsUpOrSpent p) (sym c.in-Down.ensures.value) c.requires.up

@@ -1,7 +1,7 @@
 use Rattle.std.proofs.Common.{[], subst}
 use Rattle.std.proofs.Math.Logic.{∥∥₁_map}
 use Rattle.crsm_sim_machine.specs.Machine.{MachinePends, MachineStands}
-use Rattle.crsm_sim_machine.specs.States.{IsStateOf, IsUpIn}
+use Rattle.crsm_sim_machine.specs.States.{IsStateOf, IsUpIn, IsUpOrSpent}
 use Rattle.crsm_sim_machine.proofs.machine.Machine.flush.Goals as goal
 
 pub returns-in-Ok-clause-stands : goal.returns-in-Ok-clause-stands
@@ -33,3 +33,8 @@ invariant_of-self c =
       stands = ∥∥₁_map (subst (λ p. ∥ IsStateOf old.me old.n p ∥₁) c.in-Up.is old.stands)
           (λ h. record { kept = h.replica.log; replica = h.replica; steps = []; is = c.in-Ok.ensures.stands old.me old.n h.kept h.replica h.steps h.is });
     }
+
+-- ---- what it is not asked for
+
+pub unreachable-requires : goal.unreachable-requires
+unreachable-requires c = subst (λ p. IsUpOrSpent p) c.in-Down.is c.requires

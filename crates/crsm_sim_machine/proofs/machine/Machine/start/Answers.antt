@@ -4,13 +4,13 @@ use Rattle.crsm_spec.specs.Step.{boot}
 use Rattle.crsm_spec.specs.World.{Site}
 use Rattle.crsm_sim_machine.specs.Outcomes.{Boots}
 use Rattle.crsm_sim_machine.specs.Machine.{MachineStands}
-use Rattle.crsm_sim_machine.specs.States.{IsIn, IsStateOf, IsUpAs}
+use Rattle.crsm_sim_machine.specs.States.{IsIn, IsStateOf, IsUpAs, IsDownOrSpent}
 use Rattle.crsm_sim_machine.proofs.Disks.{renamed}
 use Rattle.crsm_sim_machine.proofs.machine.Machine.start.Goals as goal
 
-pub returns-in-Down : goal.returns-in-Down
+pub returns-in_ok-booted-in-Down : goal.returns-in_ok-booted-in-Down
 unfolding MachineStands
-returns-in-Down c me n log h =
+returns-in_ok-booted-in-Down c me n log h =
     let i = c.args.self.now.me in
     let j = c.args.self.now.n in
     let b = c.in_ok-booted-in-Down.booted in
@@ -33,3 +33,8 @@ invariant_of-self-in-Down-clause-stands c =
     let j = c.args.self.now.n in
     ∥∥₁_map (subst (λ p. ∥ IsStateOf i j p ∥₁) (sym c.in-Down.ensures.value) c.args.self.now.stands)
     (λ h. record { kept = _; replica = (boot i j h.log).replica; steps = []; is = (c.in_ok-booted-in-Down.ensures h.log h.on_disk).2 })
+
+-- ---- what it is not asked for
+
+pub unreachable-requires : goal.unreachable-requires
+unreachable-requires c = subst (λ p. IsDownOrSpent p) (sym c.in-Up.ensures.value) c.requires

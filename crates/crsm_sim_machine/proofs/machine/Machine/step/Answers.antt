@@ -1,7 +1,7 @@
 use Rattle.std.proofs.Common.{[], subst}
 use Rattle.std.proofs.Math.Logic.{∥∥₁_map}
 use Rattle.crsm_sim_machine.specs.Machine.{MachineStands}
-use Rattle.crsm_sim_machine.specs.States.{IsStateOf, IsIn}
+use Rattle.crsm_sim_machine.specs.States.{IsStateOf, IsIn, IsUpOrSpent}
 use Rattle.crsm_spec.specs.World as world
 use Rattle.crsm_sim_machine.proofs.machine.Machine.step.Goals as goal
 
@@ -20,8 +20,8 @@ returns-in-Ok-clause-stands c me n r h =
 
 -- ---- the state is one of the replica
 
-pub step-requires-clause-up : goal.step-requires-clause-up
-step-requires-clause-up c =
+pub step-requires : goal.step-requires
+step-requires c =
     let i = c.args.self.now.me in
     let j = c.args.self.now.n in ∥∥₁_map (subst (λ p. ∥ IsStateOf i j p ∥₁) c.in-Up.is c.args.self.now.stands) (λ h. (i, j, h))
 
@@ -37,3 +37,8 @@ invariant_of-self c =
           let made = c.in-Ok.ensures.stands old.me old.n h.kept h.replica h.steps h.is in
           record { kept = _; replica = _; steps = []; is = made.1 });
     }
+
+-- ---- what it is not asked for
+
+pub unreachable-requires : goal.unreachable-requires
+unreachable-requires c = subst (λ p. IsUpOrSpent p) c.in-Down.is c.requires

@@ -1,7 +1,7 @@
 use Rattle.std.proofs.Common.{subst}
 use Rattle.std.proofs.Math.Logic.{∥∥₁_map}
 use Rattle.crsm_sim_machine.specs.Machine.{MachinePends}
-use Rattle.crsm_sim_machine.specs.States.{IsStateOf, IsUpIn}
+use Rattle.crsm_sim_machine.specs.States.{IsStateOf, IsUpIn, IsUpOrSpent}
 use Rattle.crsm_sim_machine.proofs.machine.Machine.take.Goals as goal
 
 pub returns-in-Ok-clause-stands : goal.returns-in-Ok-clause-stands
@@ -13,8 +13,8 @@ returns-in-Ok-clause-stands c me n r steps h =
 
 -- ---- the state is one of the replica
 
-pub take-requires-clause-up : goal.take-requires-clause-up
-take-requires-clause-up c =
+pub take-requires : goal.take-requires
+take-requires c =
     let i = c.args.self.now.me in
     let j = c.args.self.now.n in ∥∥₁_map (subst (λ p. ∥ IsStateOf i j p ∥₁) c.in-Up.is c.args.self.now.stands) (λ h. (i, j, h))
 
@@ -28,3 +28,8 @@ invariant_of-self c =
       stands = ∥∥₁_map (subst (λ p. ∥ IsStateOf old.me old.n p ∥₁) c.in-Up.is old.stands)
           (λ h. record { kept = h.kept; replica = _; steps = _; is = (c.in-Ok.ensures.stands old.me old.n h.kept h.replica h.steps h.is).2 });
     }
+
+-- ---- what it is not asked for
+
+pub unreachable-requires : goal.unreachable-requires
+unreachable-requires c = subst (λ p. IsUpOrSpent p) c.in-Down.is c.requires

@@ -10,6 +10,7 @@ use Rattle.crsm_sim_network.proofs.network.Network.send_all.Goals as goal
 pub loop-send-init : goal.loop-send-init
 loop-send-init c = record {
   at = omega arith;
+  within = omega arith;
   went = λ packets bytes h spelt. (no_sent c.args.self.now packets bytes c.args.k h, no_told c.args.lines.now c.args.k (length packets));
 }
 
@@ -20,6 +21,7 @@ overflow_add-place c = let fits = index_fits c.args.sent.now c.loop-send.place _
 pub loop-send-preserved : goal.loop-send-preserved
 loop-send-preserved c = record {
   at = let e = c.loop-send.invariant.at in omega (arith, e);
+  within = let t = c.loop-send-test.true in omega (arith, t);
   went = λ packets bytes h spelt.
       let was = c.loop-send.invariant.went packets bytes h spelt in
       let step = c.in_ok-send_one.ensures in
@@ -39,3 +41,10 @@ pub returns-clause-lines : goal.returns-clause-lines
 returns-clause-lines c packets bytes h spelt =
     let all = take_all c.loop-send.send-index c.args.sends.now c.loop-send-test.false in
     subst (λ (sends : List Send). c.loop-send.lines ≡ c.args.lines.now ++ send_lines c.args.k (length packets) (sent_of sends)) all (c.loop-send.invariant.went packets bytes h spelt).1
+
+pub returns-clause-behind : goal.returns-clause-behind
+returns-clause-behind c =
+    let at = c.loop-send.invariant.at in
+    let within = c.loop-send.invariant.within in
+    let all = c.loop-send-test.false in
+    omega (arith, at, within, all)

@@ -4,5 +4,5 @@ use Rattle.crsm_spec.specs.World as on_paper
 use Rattle.crsm_world.specs.Machines.{MachinesStand}
 use Rattle.crsm_world.proofs.machines.Machines.finals.Given as goal
 
-abbrev pub invariant-loop-k : goal.invariant-loop-k
-invariant-loop-k l = (n : ℕ) (places : List on_paper.Site) → MachinesStand l.self n places → l.lines ≡ map on_paper.final_line (take l.k (enumerate_from 0 places))
+abbrev pub invariant-loop-replica : goal.invariant-loop-replica
+invariant-loop-replica l = (n : ℕ) (places : List on_paper.Site) → MachinesStand l.self n places → l.lines ≡ map on_paper.final_line (take l.replica (enumerate_from 0 places))

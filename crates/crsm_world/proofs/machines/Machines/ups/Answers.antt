@@ -10,7 +10,7 @@ loop-machine-preserved c n places h =
     let items = c.deref-machine-items.ensures.value in
     let l : c.loop-machine.machine-index < length c.args.self.now.items.items = let e = ap length items in let t = c.loop-machine-test.true in omega arith in
     let is = subst (λ (ss : List Machine). c.machine-item.result ≡ get_or ss c.loop-machine.machine-index c.machine-item.result) items c.machine-item.is in
-    c.in_ok-push.ensures.items ∙ ups_next c.args.self.now n places c.loop-machine.machine-index c.machine-item.result c.loop-machine.ups.items c.is_up.result h l is (λ p s. c.is_up.ensures _ n p s) (c.loop-machine.invariant n places h)
+    c.in_ok-push.ensures.items ∙ ups_next c.args.self.now n places c.loop-machine.machine-index c.machine-item.result c.loop-machine.ups.items c.is_up.result h l is (λ p s. c.is_up.ensures.up _ n p s) (c.loop-machine.invariant n places h)
 
 pub returns : goal.returns
 returns c n places h =

@@ -1,4 +1,4 @@
-use Rattle.std.proofs.Common.{◌∙◌, ap, sym, subst}
+use Rattle.std.proofs.Common.{◌∙◌, ap, arith, length, sym, subst}
 use Rattle.crsm_spec.specs.Node.{Turn}
 use Rattle.crsm_spec.specs.Moments.{single}
 use Rattle.crsm_sim_machine.specs.Arriving.{turn_of}
@@ -44,3 +44,10 @@ returns-in_ok-bytes_arrive-in-Junk c v h g =
     let e = ap (λ b. turn_at (ending_of c.args.ending) v c.in-Junk.replica (Turn.In 0 b) c.in-Junk.reading) c.as_slice.ensures
     ∙ turn_junk (ending_of c.args.ending) v c.in-Junk.replica 0 c.in-Junk.reading c.in-Junk.bytes none in
     rw c.in-Junk.is (on_as _ _ _ _ _ _ (sym e) (c.in_ok-bytes_arrive-in-Junk.ensures v h))
+
+pub bytes_arrive-requires-clause-short : goal.bytes_arrive-requires-clause-short
+bytes_arrive-requires-clause-short c =
+    let fits = subst (λ (s : Single). FitsSingle s) c.in-Junk.is c.requires.fits in
+    let all = ap length c.as_slice.ensures in
+    let most = fits.most in
+    omega (arith, all, most)

@@ -4,6 +4,7 @@ use Rattle.crsm_schedule.specs.Grammar.{FitsEvent}
 use Rattle.crsm_spec.specs.Possible.{causes_of, first_bad}
 use Rattle.crsm_spec.specs.Moments.{act, moments_of, lose_batch}
 use Rattle.crsm_world.specs.Doing.{act_of}
+use Rattle.crsm_world.specs.Starting.{IsReady}
 use Rattle.crsm_world.specs.Turning.{ending_of}
 use Rattle.crsm_world.specs.Several.{together, each_gone, all_gone, AreFor}
 use Rattle.crsm_world.specs.World.{Leads}
@@ -72,7 +73,7 @@ unfolding act_of act moments_of causes_of ending_of together all_gone
 returns-in_ok-deliver_together-in-Batch c v h p =
     let e = none_of v (act_of c.args.event.now) p in
     let f = subst (λ (a : Event). first_bad (causes_of v (act_of a)) ≡ None) c.in-Batch.is e in
-    let fits = subst (λ (a : Event). FitsEvent a) c.in-Batch.is c.requires in
+    let fits = subst (λ (a : Event). FitsEvent a) c.in-Batch.is c.requires.fits in
     let one = for_one v c.in-Batch.numbers fits.1.some f in
     rw c.in-Batch.is (subst (λ (is : List ℕ). Leads (all_gone c.in-Batch.reading is v) c.deliver_together.new.self c.in_ok-deliver_together-in-Batch.field-0) c.as_slice.ensures
     (c.in_ok-deliver_together-in-Batch.ensures v one.receiver one.replica h one.up (subst (AreFor one.receiver v.packets) (sym c.as_slice.ensures) one.all)))
@@ -82,3 +83,6 @@ unfolding act_of act moments_of causes_of ending_of together
 returns-in_ok-lose_together-in-CutLostBatch c v h p =
     rw c.in-CutLostBatch.is (leads_one v _ _ _ (subst (λ (is : List ℕ). Leads (lose_batch c.in-CutLostBatch.reading is v) c.lose_together.new.self c.in_ok-lose_together-in-CutLostBatch.field-0) c.as_slice-in-CutLostBatch.ensures
     (c.in_ok-lose_together-in-CutLostBatch.ensures v h)))
+
+pub start-requires : goal.start-requires
+start-requires c = subst (λ (e : Event). IsReady e c.args.self.now.sites) c.in-Start.is c.requires.ready

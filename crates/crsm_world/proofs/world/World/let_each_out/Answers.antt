@@ -19,8 +19,8 @@ loop-one-preserved c =
       spelt = (subst (λ (ts : List DeliveredStep). AllByRecursion FitsTaken ts) steps at.invariant.spelt).1;
       out = λ t v now drafts h runs sent.
           let sent_is = c.sent.ensures ∙ ap (λ s. s.port.sent) at.invariant.sites in
-          out_more c.args.k t v now _ _ _ c.in-Some.one _ at.place c.in_ok-next.next at.self (record at.self { network = c.let_all_out.new.network }) at.lines c.let_all_out.new.lines (at.invariant.out t v now drafts h runs sent) steps c.in_ok-next.ensures
-          (λ u x network made spelt. c.in_ok-let_all_out.ensures _ u.bytes x (c.use_up.ensures u.packets u.bytes network) made (subst (λ (ds : List Sent). AreSpelt c.in-Some.one.step.batch.sends ds at.place) (sym sent_is) spelt));
+          out_more c.args.k t v now _ _ _ c.in-Some.one _ at.place c.in_ok-next.next at.self (record at.self { network = c.let_all_out.new.network }) at.lines c.let_all_out.new.lines (at.invariant.out t v now drafts h runs sent) steps c.in_ok-next.ensures.behind
+          (λ u x network made spelt. c.in_ok-next.ensures.stands _ u.bytes x (c.use_up.ensures u.packets u.bytes network) made (subst (λ (ds : List Sent). AreSpelt c.in-Some.one.step.batch.sends ds at.place) (sym sent_is) spelt));
     }
 
 pub returns : goal.returns

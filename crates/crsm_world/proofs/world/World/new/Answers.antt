@@ -2,9 +2,10 @@ use Rattle.std.proofs.Common.{◌≡◌, ◌∙◌, ap, sym, refl, subst, arith,
 use Rattle.crsm_spec.specs.World.{World}
 use Rattle.crsm_spec.specs.Moments.{start_at}
 use Rattle.crsm_spec.specs.Run.{after_acts, last_world}
+use Rattle.crsm_world.specs.Machines.{IsNotUpAt}
 use Rattle.crsm_world.specs.Starting.{CanStart}
 use Rattle.crsm_world.specs.World.{WorldStands, Holds, Leads}
-use Rattle.crsm_world.proofs.First.{part, part_lines, no_part, no_lines, all_parts, all_lines, next_can, part_next, lines_more}
+use Rattle.crsm_world.proofs.First.{none_yet, part, part_lines, no_part, no_lines, all_parts, all_lines, next_can, part_next, lines_more}
 use Rattle.crsm_world.proofs.world.World.new.Goals as goal
 
 pub loop-k-init : goal.loop-k-init
@@ -41,3 +42,8 @@ returns-clause-done c =
     let e : c.loop-k.k ≡ c.args.n = let a = c.loop-k-test.false in let b = c.loop-k.auto.k-end in omega arith in
     let h = subst (λ (u : World). Holds c.loop-k.world u) (ap (part c.args.n) e ∙ all_parts c.args.n) c.loop-k.invariant.holds in
     record { some = c.requires.some; most = c.requires.most; possible = tt; stands = record { unspent = refl; holds = record { sites = h.sites; network = h.network } } }
+
+pub start-requires : goal.start-requires
+start-requires c =
+    let world = c.loop-k.world in
+    subst (λ (j : ℕ). IsNotUpAt world.sites j) (sym c.from.ensures) (none_yet c.args.n c.loop-k.k world.sites c.loop-k.invariant.holds.sites)

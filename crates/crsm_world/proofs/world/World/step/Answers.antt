@@ -9,7 +9,7 @@ pub returns-clause-done : goal.returns-clause-done
 unfolding WorldStands
 returns-clause-done c n acts done =
     let before = done.stands.holds in
-    let here = c.in_default.ensures (last_world n acts) before in
+    let here = c.in_default.ensures.answers (last_world n acts) before in
     let after = (c.in-Ok.ensures (last_world n acts) before here).after in
     does_more c.args.self.now _ n acts c.args.event.now done c.requires here (record { unspent = refl; holds = record { sites = after.sites; network = after.network } })
 

@@ -10,6 +10,7 @@ use Rattle.crsm_world.proofs.world.World.take_all.Goals as goal
 pub loop-number-init : goal.loop-number-init
 loop-number-init c = record {
   count = refl;
+  up = c.requires.up;
   spelt = subst (λ (ts : List DeliveredStep). AllByRecursion FitsTaken ts) (sym c.new-taken.ensures.items) tt;
   takes = λ v r h e f. took_none c.args.k c.args.reading v c.args.numbers.now c.args.self.now r _
       (record { sites = pend_begin c.args.self.now.sites v.n v.sites c.args.k h.sites (pending_from v.n c.args.k v.sites r e c.machines_pend_nothing.ensures); network = h.network }) e c.new-taken.ensures.items;
@@ -18,6 +19,7 @@ loop-number-init c = record {
 pub loop-number-preserved : goal.loop-number-preserved
 loop-number-preserved c = record {
   count = c.in_ok-one.ensures.count ∙ c.loop-number.invariant.count;
+  up = c.in_ok-one.ensures.up;
   spelt = subst (λ (ts : List DeliveredStep). AllByRecursion FitsTaken ts) (sym c.in_ok-push.ensures.items) (all_append FitsTaken c.loop-number.taken.items (c.in_ok-one.one ∷ []) c.loop-number.invariant.spelt (c.in_ok-one.ensures.spelt, tt));
   takes = λ v r h e f. took_more c.args.k c.args.reading v c.args.numbers.now c.loop-number.number-index c.loop-number.self c.take.new.self c.loop-number.taken.items _ c.in_ok-one.one (c.loop-number.invariant.takes v r h e f)
       c.loop-number-test.true f c.in_ok-one.ensures.number c.in_ok-one.ensures.stands c.in_ok-push.ensures.items;
