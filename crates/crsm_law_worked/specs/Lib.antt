@@ -1,0 +1,6 @@
+pub mod Values
+pub mod Files
+pub mod Orders
+pub mod Devices
+pub mod Worked
+pub mod Breaking

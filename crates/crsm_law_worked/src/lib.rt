@@ -1,0 +1,39 @@
+//! Worked runs of a cluster's nodes, over devices that are written out: two runs of a node that meet the premises of the
+//! law of runs, and runs in which one of its premises fails and agreement with it.
+#![tactic(auto)]
+
+ghost use Rattle.std.specs.Prelude.{◌≡◌, length};
+ghost use Rattle.crsm_law_worked.specs.Breaking.{ClustersAreSmall, ForgetfulDisksBreak, LostFilesBreak};
+ghost use Rattle.crsm_law_worked.specs.Worked.{WorkedRuns};
+
+use crsm_law_processes::{processes_are_histories, steps_of_processes_are_right};
+
+/// Shows a node that runs twice over one log file, so that the premises of the law of runs can be met. Its first run
+/// answers a client, takes one more request and is killed before this is synced; its second run boots on the file,
+/// begins the next epoch and answers the second client, which asks again. The processes that the runs were make a
+/// lawful history in which the first answer is sent. The node's only address is any one.
+pub fn runs_happen(peers: &Vec<u64>)
+    requires one { length peers.now.items ≡ 1 }
+    ensures { (one : length peers.now.items ≡ 1) → WorkedRuns peers.now one }
+{
+    processes_are_histories();
+    steps_of_processes_are_right();
+}
+
+/// Shows two runs of which the second finds a file that the first cannot leave: they execute different entries at
+/// one place.
+pub fn lost_files_break(peers: &Vec<u64>)
+    requires one { length peers.now.items ≡ 1 }
+    ensures { (one : length peers.now.items ≡ 1) → LostFilesBreak peers.now one }
+{}
+
+/// Shows two runs over a disk that forgets what was synced: they execute different entries at one place.
+pub fn forgetful_disks_break(peers: &Vec<u64>)
+    requires one { length peers.now.items ≡ 1 }
+    ensures { (one : length peers.now.items ≡ 1) → ForgetfulDisksBreak peers.now one }
+{}
+
+/// States that each cluster in which a node runs began with at most 15 replicas.
+pub fn clusters_are_small()
+    ensures { ClustersAreSmall }
+{}
