@@ -36,6 +36,7 @@ done < <(count)
 exit "$fail"
 # list
 # crsm_audit 5
+# crsm_cmd_dump 1
 # crsm_cmd_soak 1
 # crsm_delay 1
 # crsm_mpledger 2

@@ -9,5 +9,5 @@ unreachable-requires c =
     let d = c.in_ok-disk.disk in
     let room = c.in_ok-reserve.ensures.plan.room (record { calls = d.room_calls; bytes = d.room_bytes; good = good_left d }) refl in
     let good : room.0.good ≡ None = room.2.good ∙ ap good_left c.in_ok-disk.ensures in
-    let bytes : (0 - length (meaning_of c.reserve.new.self).seen) + length c.args.file.now ≤ room.0.bytes = let b = room.2.bytes in let l = c.len.ensures in omega (arith, b, l) in
+    let bytes : (0 - length (meaning_of c.reserve.new.self).seen) + length c.args.file.now ≤ room.0.bytes = let b = room.2.bytes in omega (arith, b) in
     none-some 0 (sym good ∙ (c.in-Err.ensures.answer.plan.exact room.0 room.1 room.2.calls bytes).0 refl)

@@ -87,8 +87,8 @@ none_pending : {D : Type 0} {g : _} (shell : Shell D g) (m : Meaning) (kept : Lo
 unfolding ShellStands
 none_pending shell m kept r s = s.pending
 
-pub run_shell-requires : goal.run_shell-requires
-run_shell-requires g c =
+pub run_shell-ended-requires : goal.run_shell-ended-requires
+run_shell-ended-requires g c =
     let order = c.args.order.now in
     let s = c.in-Ok.booted.shell in
     let e = c.in-Ok.ensures in
