@@ -1,5 +1,5 @@
 -- The runs of one node, one after another: the processes that they were lead to each file that is left.
-use Rattle.std.proofs.Common.{◌≡◌, ℕ, ◌+◌, ◌*◌, ◌<◌, ◌≤◌, List, [], ◌∷◌, ◌++◌, length, true, refl, sym, ◌∙◌, ap, subst, inl, inr, arith, append_assoc, length-append}
+use Rattle.std.proofs.Common.{◌≡◌, ℕ, ◌<◌, ◌≤◌, List, [], ◌∷◌, ◌++◌, true, refl, sym, ◌∙◌, ap, subst, inl, inr, arith, append_assoc}
 use Rattle.std.specs.Prelude.{◌⊎◌, ◌^◌, IsTrue}
 use Rattle.std.specs.List.{AllByRecursion}
 use Rattle.std.proofs.lemmas.Bool.{cases_eq}
@@ -12,6 +12,7 @@ use Rattle.crsm_disk.specs.Meaning.{LeavesOnly}
 use Rattle.crsm_ledger.specs.Recovered.{AreKept}
 use Rattle.crsm_log.specs.Format.{bodies_in, bodies_of, found, reading}
 use Rattle.crsm_shell.specs.Booting.{boot_body}
+use Rattle.crsm_shell.specs.Flushing.{IsFull}
 use Rattle.crsm_shell.specs.Shell.{HasLog}
 use Rattle.crsm_law_lives.specs.Events.{left_by}
 use Rattle.crsm_law_lives.specs.Premises.{IsProcess}
@@ -25,7 +26,7 @@ use Rattle.crsm_law_restarts.specs.Runs.{AreRunsOf, FollowEachOther, HasNoBody, 
 use Rattle.crsm_law_restarts.specs.Processes.{Was, WasLife, WasNone, WasProcess, Were, boot_alone}
 use Rattle.crsm_law_restarts.proofs.Lives.{LeadsTo, leads}
 use Rattle.crsm_law_restarts.proofs.Logs.{boot_kept}
-use Rattle.crsm_law_restarts.proofs.Sizes.{boot_small, size_none, size_push}
+use Rattle.crsm_law_restarts.proofs.Sizes.{fits_in, size_none, size_push}
 
 -- ---- processes one behind another
 
@@ -57,9 +58,6 @@ module _ {S : Type 0} (at : S → Devices) (n k : ℕ) where
   were_more [] x ls ms w was = (ms, [], ap (λ (z : List Life). z ++ ms) w ∙ sym (append-nil ms), was, refl)
   were_more (y ∷ xs) x ls ms w was = (w.0, w.1 ++ ms, ap (λ (z : List Life). z ++ ms) w.2 ∙ append_assoc w.0 w.1 ms, w.3, were_more xs x w.1 ms w.4 was)
 
-  abbrev room : ℕ → ℕ
-  room count = 2 ^ 32 + 64 * count
-
   -- The processes that these runs were lead to the bodies of the file.
   record IsLedTo (xs : List (Run S)) (file : List ℕ) : Type 0 where
     ls : List Life
@@ -70,10 +68,7 @@ module _ {S : Type 0} (at : S → Devices) (n k : ℕ) where
     mine : AllByRecursion (λ (l : Life). l.me ≡ k) ls
     processes : AllByRecursion IsProcess ls
     fates : AllByRecursion (HasFates n) ls
-    small : size_of bodies ≤ room (length xs)
-
-  one_more : (xs : List (Run S)) (x : Run S) → length (xs ++ x ∷ []) ≡ length xs + 1
-  one_more xs x = length-append xs (x ∷ [])
+    small : size_of bodies ≤ 2 ^ 32
 
   module _ (xs : List (Run S)) (x : Run S) where
     -- one more run, which was no process
@@ -87,11 +82,15 @@ module _ {S : Type 0} (at : S → Devices) (n k : ℕ) where
       mine = e.mine;
       processes = e.processes;
       fates = e.fates;
-      small = let s = e.small in let c = one_more xs x in omega (arith, s, c);
+      small = e.small;
     }
 
+    -- the same of a file that reads so
+    reads_too : (before file : List ℕ) → IsLedTo xs before → reading file ≡ reading before → IsLedTo xs file
+    reads_too before file e same = record { ls = e.ls; were = e.were; bodies = e.bodies; reads = same ∙ e.reads; lead = e.lead; mine = e.mine; processes = e.processes; fates = e.fates; small = e.small }
+
     -- one more, which was this one
-    life_more : (before file : List ℕ) (e : IsLedTo xs before) (l : Life) → LeadsTo n k (room (length xs) + 64) e.bodies l file → Was at x (l ∷ []) → IsLedTo (xs ++ x ∷ []) file
+    life_more : (before file : List ℕ) (e : IsLedTo xs before) (l : Life) → LeadsTo n k e.bodies l file → Was at x (l ∷ []) → IsLedTo (xs ++ x ∷ []) file
     life_more before file e l to was = record {
       ls = e.ls ++ l ∷ [];
       were = were_more xs x e.ls (l ∷ []) e.were was;
@@ -101,36 +100,37 @@ module _ {S : Type 0} (at : S → Devices) (n k : ℕ) where
       mine = all_both (λ (m : Life). m.me ≡ k) e.ls (l ∷ []) e.mine (to.mine, tt);
       processes = all_both IsProcess e.ls (l ∷ []) e.processes (to.process, tt);
       fates = all_both (HasFates n) e.ls (l ∷ []) e.fates (to.fates, tt);
-      small = let s = to.small in let c = one_more xs x in omega (arith, s, c);
+      small = to.small;
     }
 
-    module _ (small : k < 15) (most : n ≤ 15) (few : length xs < 2 ^ 40) (me : x.order.me ≡ k) (count : x.order.n ≡ n) where
+    module _ (small : k < 15) (most : n ≤ 15) (me : x.order.me ≡ k) (count : x.order.n ≡ n) where
       -- a run that was not booted, whose boot is there
-      alone : (before file : List ℕ) (e : IsLedTo xs before) (log : Log) → HasLog x.order.me x.order.n before log → reading file ≡ found (bodies_of before ++ boot_body x.order.me x.order.n log ∷ []) →
-          LeadsTo n k (room (length xs) + 64) e.bodies (boot_alone x.order.me log) file
+      alone : (before file : List ℕ) (e : IsLedTo xs before) (log : Log) → HasLog x.order.me x.order.n before log → (IsFull before (boot_body x.order.me x.order.n log) → ⊥) →
+          reading file ≡ found (bodies_of before ++ boot_body x.order.me x.order.n log ∷ []) → LeadsTo n k e.bodies (boot_alone x.order.me log) file
       unfolding HasLog boot_alone left_by kept_turns replica_after
-      alone before file e log has is =
+      alone before file e log has room is =
           let same : bodies_of before ≡ e.bodies = ap bodies_in e.reads in
           let body = boot_body x.order.me x.order.n log in
           let kept = subst (λ (bs : List (List ℕ)). AreKept x.order.me x.order.n [] bs log) same has.kept in
           let size = kept_size x.order.me x.order.n [] e.bodies log kept in
           let was = e.small in
-          let put = boot_small x.order.me x.order.n log in
+          let bytes = ap size_of same in
+          let fit_in = fits_in before body room (omega (arith, was, bytes)) in
           let push = size_push e.bodies body in
-          let fits = boot_kept x.order.me x.order.n e.bodies log (subst (λ (i : ℕ). i < 15) (sym me) small) (subst (λ (i : ℕ). i ≤ 15) (sym count) most) (omega (arith, size, was, few)) kept in
+          let fits = boot_kept x.order.me x.order.n e.bodies log (subst (λ (i : ℕ). i < 15) (sym me) small) (subst (λ (i : ℕ). i ≤ 15) (sym count) most) (omega (arith, size, was)) kept in
           record {
             left = e.bodies ++ body ∷ [];
             reads = is ∙ ap (λ (bs : List (List ℕ)). found (bs ++ body ∷ [])) same;
             leaves = record {
               found_log = subst (λ (i : ℕ). AreKept x.order.me i [] e.bodies log) count kept;
               left_log = subst (λ (i : ℕ). AreKept x.order.me i [] (e.bodies ++ body ∷ []) (boot x.order.me i log).replica.log) count fits;
-              small = omega (arith, push, put, was, few);
+              small = omega (arith, push, fit_in, bytes);
             };
             ended = refl;
             mine = me;
             process = record { number = subst (λ (i : ℕ). i < 15) (sym me) small; turns = tt };
             fates = tt;
-            small = omega (arith, push, put, was);
+            small = omega (arith, push, fit_in, bytes);
           }
 
       -- these devices, which the run saw
@@ -150,18 +150,20 @@ module _ {S : Type 0} (at : S → Devices) (n k : ℕ) where
             go : IsLeftAtStart x.order old.disk file → IsLedTo (xs ++ x ∷ []) file
             go (inl (inl may)) = none_more file file (led file may) refl (to [] (inl refl))
             go (inl (inr same)) = none_more old.disk.seen file before same (to [] (inl refl))
-            go (inr h) = life_more old.disk.seen file before (boot_alone x.order.me h.0) (alone old.disk.seen file before h.0 h.1 h.2) (to (boot_alone x.order.me h.0 ∷ []) (inr (h.0, refl)))
+            go (inr (claimed_file, same, b)) =
+                let e = reads_too old.disk.seen claimed_file before same in
+                life_more claimed_file file e (boot_alone x.order.me b.0) (alone claimed_file file e b.0 b.1 b.2 b.3) (to (boot_alone x.order.me b.0 ∷ []) (inr (b.0, refl)))
 
         was_booted : (run : RunsLife x.order old new x.end) (file : List ℕ) → new.disk.may_leave file → Goes (WasLife run.life run.result) file
         was_booted run file is to =
             let same : run.bodies ≡ before.bodies = sym (ap bodies_in (run.found honest).0) ∙ ap bodies_in before.reads in
             let was = before.small in
             let sizes = ap size_of same in
-            let next = leads x.order old new x.end run honest (room (length xs) + 64) (omega arith) (omega (arith, few)) (subst (λ (i : ℕ). i < 15) (sym me) small) (omega (arith, was, sizes)) file is in
+            let next = leads x.order old new x.end run honest (subst (λ (i : ℕ). i < 15) (sym me) small) (omega (arith, was, sizes)) file is in
             life_more old.disk.seen file before next.0
-            (subst (λ (i : ℕ). LeadsTo i k (room (length xs) + 64) before.bodies next.0 file) count
-            (subst (λ (i : ℕ). LeadsTo x.order.n i (room (length xs) + 64) before.bodies next.0 file) me
-            (subst (λ (bs : List (List ℕ)). LeadsTo x.order.n x.order.me (room (length xs) + 64) bs next.0 file) same next.2)))
+            (subst (λ (i : ℕ). LeadsTo i k before.bodies next.0 file) count
+            (subst (λ (i : ℕ). LeadsTo x.order.n i before.bodies next.0 file) me
+            (subst (λ (bs : List (List ℕ)). LeadsTo x.order.n x.order.me bs next.0 file) same next.2)))
             (to (next.0 ∷ []) next.1)
 
         either : (NotBooted x.order old new x.end ⊎ RunsLife x.order old new x.end) → (file : List ℕ) → new.disk.may_leave file → Goes (WasProcess x.order old new x.end) file
@@ -195,15 +197,14 @@ module _ {S : Type 0} (at : S → Devices) (n k : ℕ) where
     file : List ℕ
     is : left file
 
-  all_led : k < 15 → n ≤ 15 → (xs ys : List (Run S)) (left : List ℕ → Type 0) → length (xs ++ ys) < 2 ^ 40 → FollowEachOther at n k left ys → IsSome left → ((file : List ℕ) → left file → IsLedTo xs file) →
+  all_led : k < 15 → n ≤ 15 → (xs ys : List (Run S)) (left : List ℕ → Type 0) → FollowEachOther at n k left ys → IsSome left → ((file : List ℕ) → left file → IsLedTo xs file) →
       (file : List ℕ) × IsLedTo (xs ++ ys) file
-  all_led small most xs [] left few follow some led = (some.file, subst (λ (zs : List (Run S)). IsLedTo zs some.file) (sym (append-nil xs)) (led some.file some.is))
-  all_led small most xs (x ∷ ys) left few follow some led =
+  all_led small most xs [] left follow some led = (some.file, subst (λ (zs : List (Run S)). IsLedTo zs some.file) (sym (append-nil xs)) (led some.file some.is))
+  all_led small most xs (x ∷ ys) left follow some led =
       let r = follow.0 in
-      let count = length-append xs (x ∷ ys) in
       let same = append_assoc xs (x ∷ []) ys in
-      let on = all_led small most (xs ++ x ∷ []) ys (at x.after).disk.may_leave (subst (λ (zs : List (Run S)). length zs < 2 ^ 40) (sym same) few) follow.2 (some_after x r)
-      (next xs x small most (omega (arith, few, count)) r.me r.count r (λ file may. led file (follow.1 file may))) in
+      let on = all_led small most (xs ++ x ∷ []) ys (at x.after).disk.may_leave follow.2 (some_after x r)
+      (next xs x small most r.me r.count r (λ file may. led file (follow.1 file may))) in
       (on.0, subst (λ (zs : List (Run S)). IsLedTo zs on.0) same on.1)
     where
       some_after : (x : Run S) → IsRunOf at n k x → IsSome (at x.after).disk.may_leave
@@ -224,6 +225,6 @@ module _ {S : Type 0} (at : S → Devices) (n k : ℕ) where
 
   pub have_lives : k < 15 → n ≤ 15 → (xs : List (Run S)) → AreRunsOf at n k xs → HasLives xs
   have_lives small most xs r =
-      let all = all_led small most [] xs HasNoBody r.few r.follow (record { file = []; is = refl }) none_led in
+      let all = all_led small most [] xs HasNoBody r (record { file = []; is = refl }) none_led in
       let e = all.1 in
       record { ls = e.ls; were = e.were; finds = find_bodies n [] e.bodies e.ls e.lead; mine = e.mine; processes = e.processes; fates = e.fates }

@@ -1,5 +1,5 @@
 -- What a run that was booted leaves in its log file.
-use Rattle.std.proofs.Common.{◌≡◌, ℕ, ◌+◌, ◌<◌, ◌≤◌, List, [], ◌∷◌, ◌++◌, length, true, refl, sym, ◌∙◌, ap, subst, inl, inr, arith, append_assoc}
+use Rattle.std.proofs.Common.{◌≡◌, ℕ, ◌<◌, ◌≤◌, List, [], ◌∷◌, ◌++◌, length, true, refl, sym, ◌∙◌, ap, subst, inl, inr, arith, append_assoc}
 use Rattle.std.specs.Prelude.{◌⊎◌, ◌^◌, IsTrue, Result, Ok, Err}
 use Rattle.std.specs.List.{AllByRecursion}
 use Rattle.crsm_base.specs.Records.{FitsRec}
@@ -30,7 +30,7 @@ use Rattle.crsm_node.specs.declared.order.NodeOrder.{NodeOrder}
 use Rattle.crsm_law_restarts.specs.Processes.{WasLife}
 use Rattle.crsm_law_restarts.proofs.Logs.{boot_count, boot_mine, kept_fit, kept_more, log_after, turns_fit}
 use Rattle.crsm_law_restarts.proofs.Packets.{have_fates, have_fates_more}
-use Rattle.crsm_law_restarts.proofs.Sizes.{boot_small, fits_in, put_small, size_push}
+use Rattle.crsm_law_restarts.proofs.Sizes.{fits_in, put_small, size_push}
 
 -- ---- turns behind turns
 
@@ -60,7 +60,7 @@ which_is_left before bodies r lost (Err errors.Failed) c h = inl h
 which_is_left before bodies r lost (Err errors.NoMemory) c h = inl h
 
 -- These processes, one or none, lead from the first bodies to those of the file.
-pub record LeadsTo (n k most : ℕ) (found_bodies : List (List ℕ)) (l : Life) (file : List ℕ) : Type 0 where
+pub record LeadsTo (n k : ℕ) (found_bodies : List (List ℕ)) (l : Life) (file : List ℕ) : Type 0 where
   pub left : List (List ℕ)
   pub reads : reading file ≡ found left
   pub leaves : LeavesBodies n l found_bodies left
@@ -68,9 +68,9 @@ pub record LeadsTo (n k most : ℕ) (found_bodies : List (List ℕ)) (l : Life) 
   pub mine : l.me ≡ k
   pub process : IsProcess l
   pub fates : HasFates n l
-  pub small : size_of left ≤ most
+  pub small : size_of left ≤ 2 ^ 32
 
-module _ (order : NodeOrder) (old new : Devices) (end : NodeEnd) (run : RunsLife order old new end) (honest : IsTrue old.disk.honest) (most : ℕ) (big : 2 ^ 32 ≤ most) (short : most ≤ 2 ^ 50) where
+module _ (order : NodeOrder) (old new : Devices) (end : NodeEnd) (run : RunsLife order old new end) (honest : IsTrue old.disk.honest) where
   abbrev l : Life
   l = run.life
 
@@ -101,38 +101,32 @@ module _ (order : NodeOrder) (old new : Devices) (end : NodeEnd) (run : RunsLife
   left_is : left ≡ bodies_of old.disk.seen ++ (boots ∷ bodies)
   left_is = ap bodies_in keeps.bodies
 
-  begun_is : bodies_of keeps.begun ≡ bodies_of old.disk.seen ++ boots ∷ []
-  begun_is = ap bodies_in keeps.boots
-
   left_log : AreKept order.me order.n [] left last.log
   unfolding HasLog
   left_log = keeps.log.kept
 
-  left_small : size_of run.bodies + 64 ≤ most → size_of left ≤ most
+  left_small : size_of run.bodies ≤ 2 ^ 32 → size_of left ≤ 2 ^ 32
   left_small room =
-      let count = ap size_of begun_is in
-      let push = size_push (bodies_of old.disk.seen) boots in
-      let same = ap size_of found_in in
-      let few = boot_small order.me order.n l.found in
-      put_small bodies keeps.begun keeps.file most big keeps.put (omega (arith, count, push, same, few, room))
+      let same = ap size_of (ap bodies_in keeps.claims ∙ found_in) in
+      put_small (boots ∷ bodies) keeps.claimed_file keeps.file keeps.put (omega (arith, same, room))
 
   is_process : order.me < 15 → IsProcess l
   is_process number = record { number = subst (λ (k : ℕ). k < 15) (sym run.me) number; turns = run.takes.can_be }
 
   -- ---- without the last group
 
-  leaves_it : size_of left ≤ most → LeavesBodies order.n l run.bodies left
+  leaves_it : size_of left ≤ 2 ^ 32 → LeavesBodies order.n l run.bodies left
   unfolding left_by
   leaves_it few = record {
     found_log = subst (λ (k : ℕ). AreKept k order.n [] run.bodies l.found) (sym run.me) run.kept;
     left_log = subst (λ (k : ℕ). AreKept k order.n [] left (replica_after (boot k order.n l.found).replica (kept_turns l.groups)).log) (sym run.me) left_log;
-    small = omega (arith, few, short);
+    small = omega (arith, few);
   }
 
   have_its_fates : HasFates order.n l
   have_its_fates = subst (λ (k : ℕ). laws.HaveFates (boot k order.n l.found).replica l.groups) (sym run.me) (have_fates start l.groups run.fates)
 
-  pub without_lost : order.me < 15 → size_of run.bodies + 64 ≤ most → (c : List ℕ) → HasBehind old.disk.seen (boots ∷ bodies) c → LeadsTo order.n order.me most run.bodies l c
+  pub without_lost : order.me < 15 → size_of run.bodies ≤ 2 ^ 32 → (c : List ℕ) → HasBehind old.disk.seen (boots ∷ bodies) c → LeadsTo order.n order.me run.bodies l c
   without_lost number room c is =
       let few = left_small room in
       record {
@@ -166,19 +160,19 @@ module _ (order : NodeOrder) (old new : Devices) (end : NodeEnd) (run : RunsLife
     unfolding with_lost_kept
     all_after k = ap (replica_after (boot k order.n l.found).replica) (all_turns l.groups l.lost) ∙ turns_after (boot k order.n l.found).replica (kept_turns l.groups) l.lost
 
-    all_small : size_of run.bodies + 64 ≤ most → size_of (left ++ body ∷ []) ≤ most
+    all_small : size_of run.bodies ≤ 2 ^ 32 → size_of (left ++ body ∷ []) ≤ 2 ^ 32
     all_small room =
         let push = size_push left body in
-        let fits = fits_in keeps.file body stops.0 most big (left_small room) in
+        let fits = fits_in keeps.file body stops.0 (left_small room) in
         omega (arith, push, fits)
 
-    leaves_all : size_of (left ++ body ∷ []) ≤ most → LeavesBodies order.n (with_lost_kept l) run.bodies (left ++ body ∷ [])
+    leaves_all : size_of (left ++ body ∷ []) ≤ 2 ^ 32 → LeavesBodies order.n (with_lost_kept l) run.bodies (left ++ body ∷ [])
     unfolding with_lost_kept left_by
     leaves_all few = record {
       found_log = subst (λ (k : ℕ). AreKept k order.n [] run.bodies l.found) (sym run.me) run.kept;
       left_log = subst (λ (k : ℕ). AreKept k order.n [] (left ++ body ∷ []) (replica_after (boot k order.n l.found).replica (kept_turns (with_lost_kept l).groups)).log) (sym run.me)
           (subst (λ (r : Replica). AreKept order.me order.n [] (left ++ body ∷ []) r.log) (sym (all_after order.me)) all_log);
-      small = omega (arith, few, short);
+      small = omega (arith, few);
     }
 
     have_all_fates : HasFates order.n (with_lost_kept l)
@@ -191,8 +185,8 @@ module _ (order : NodeOrder) (old new : Devices) (end : NodeEnd) (run : RunsLife
     unfolding with_lost_kept
     all_mine = (run.me, run.ended)
 
-    pub with_lost : order.me < 15 → size_of run.bodies + 64 ≤ most → (c : List ℕ) → HasBehind old.disk.seen ((boots ∷ bodies) ++ body ∷ []) c →
-        LeadsTo order.n order.me most run.bodies (with_lost_kept l) c
+    pub with_lost : order.me < 15 → size_of run.bodies ≤ 2 ^ 32 → (c : List ℕ) → HasBehind old.disk.seen ((boots ∷ bodies) ++ body ∷ []) c →
+        LeadsTo order.n order.me run.bodies (with_lost_kept l) c
     with_lost number room c is =
         let few = all_small room in
         record {
@@ -208,10 +202,10 @@ module _ (order : NodeOrder) (old new : Devices) (end : NodeEnd) (run : RunsLife
 
   -- ---- either
 
-  pub leads : order.me < 15 → size_of run.bodies + 64 ≤ most → (c : List ℕ) → new.disk.may_leave c → (m : Life) × WasLife l run.result (m ∷ []) × LeadsTo order.n order.me most run.bodies m c
+  pub leads : order.me < 15 → size_of run.bodies ≤ 2 ^ 32 → (c : List ℕ) → new.disk.may_leave c → (m : Life) × WasLife l run.result (m ∷ []) × LeadsTo order.n order.me run.bodies m c
   leads number room c is = go (which_is_left old.disk.seen (boots ∷ bodies) last l.lost run.result c (keeps.synced c is))
     where
       go : HasBehind old.disk.seen (boots ∷ bodies) c ⊎ ((run.result ≡ Err errors.DiskFault) × (0 < length body) × HasBehind old.disk.seen ((boots ∷ bodies) ++ body ∷ []) c) →
-          (m : Life) × WasLife l run.result (m ∷ []) × LeadsTo order.n order.me most run.bodies m c
+          (m : Life) × WasLife l run.result (m ∷ []) × LeadsTo order.n order.me run.bodies m c
       go (inl h) = (l, inl refl, without_lost number room c h)
       go (inr h) = (with_lost_kept l, inr (h.0, refl), with_lost h.0 h.1 number room c h.2)

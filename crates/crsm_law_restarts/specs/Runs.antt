@@ -1,5 +1,5 @@
 -- The runs of one node, one after another over one log file.
-use Rattle.std.specs.Prelude.{◌≡◌, ℕ, ◌<◌, ◌^◌, List, [], ◌∷◌, length, IsTrue}
+use Rattle.std.specs.Prelude.{◌≡◌, ℕ, List, [], ◌∷◌, IsTrue}
 use Rattle.crsm_log.specs.Format.{found, reading}
 use Rattle.crsm_node.specs.Running.{Devices, RunsOverCluster}
 use Rattle.crsm_node.specs.declared.errors.NodeEnd.{NodeEnd}
@@ -31,7 +31,6 @@ FollowEachOther at n k left (x ∷ xs) =
 abbrev pub HasNoBody : List ℕ → Type 0
 HasNoBody file = reading file ≡ found []
 
--- All runs of replica k's node: the first finds a file without a body, and there are fewer than 2^40.
-pub record AreRunsOf {S : Type 0} (at : S → Devices) (n k : ℕ) (xs : List (Run S)) : Type 0 where
-  pub follow : FollowEachOther at n k HasNoBody xs
-  pub few : length xs < 2 ^ 40
+-- All runs of replica k's node: the first finds a file without a body.
+abbrev pub AreRunsOf : {S : Type 0} → (S → Devices) → (n k : ℕ) → List (Run S) → Type 0
+AreRunsOf at n k xs = FollowEachOther at n k HasNoBody xs

@@ -35,7 +35,7 @@ use Rattle.crsm_law_worked.specs.Files.{begun_file, bodies_found, first_boot_bod
 use Rattle.crsm_law_worked.specs.Orders.{order_of}
 use Rattle.crsm_law_worked.specs.Devices.{LeftSince, Moment, at, clock_with, packet}
 use Rattle.crsm_law_worked.proofs.Bytes.{are_bytes, small, small_too}
-use Rattle.crsm_law_worked.proofs.Logs.{behind_those, fit_first_not_kept, has_log, kept_found, lost_some, reads_begun, reads_first, reads_lost, room_for_first, room_for_lost}
+use Rattle.crsm_law_worked.proofs.Logs.{behind_those, fit_first_not_kept, has_log, kept_found, lost_some, reads_begun, reads_first, reads_lost, room_for_boot, room_for_first, room_for_lost}
 use Rattle.crsm_node.specs.declared.errors.NodeEnd.TheVariants as ends
 use Rattle.crsm_node.specs.declared.errors.NodeError.TheVariants as errors
 
@@ -161,10 +161,14 @@ all_maybe = boot_body 0 1 [] ∷ bodies_in_log start (maybe_kept first_life.grou
 maybe_so : all_maybe ≡ first_boot_body ∷ first_kept_body ∷ lost_body ∷ []
 maybe_so = ap (λ (b : List ℕ). b ∷ bodies_in_log start (maybe_kept first_life.groups first_life.lost stopped)) boots_so ∙ ap (λ (bs : List (List ℕ)). first_boot_body ∷ bs) may_keep_so
 
-put_so : PutInTurn (bodies_in_log start (turns_by_group first_life.groups)) begun_file first_file
+put_so : PutInTurn all_kept [] first_file
 unfolding PutInTurn
-put_so = subst (λ (bs : List (List ℕ)). PutInTurn bs begun_file first_file) (sym keeps_so)
-    (first_file, behind_those begun_file (first_boot_body ∷ []) reads_begun first_file (first_kept_body ∷ []) reads_first, room_for_first, refl)
+put_so = subst (λ (bs : List (List ℕ)). PutInTurn bs [] first_file) (sym all_so) (
+  begun_file,
+  reads_begun,
+  room_for_boot,
+  (first_file, behind_those begun_file (first_boot_body ∷ []) reads_begun first_file (first_kept_body ∷ []) reads_first, room_for_first, refl),
+)
 
 stops_so : StopsAt last first_life.lost first_file stopped
 stops_so = (
@@ -197,9 +201,9 @@ left_in_life t c (inr (lt, inr (inr never))) = absurd never
 
 pub keeps : (peers : Vec ℕ Global) (one : length peers.items ≡ 1) → KeepsLife (order_of 3 peers one) first_life (at Moment.FirstBegins).disk (at Moment.FirstEnds).disk stopped
 keeps peers one = record {
-  begun = begun_file;
+  claimed_file = [];
   file = first_file;
-  boots = subst (λ (b : List ℕ). HasBehind [] (b ∷ []) begun_file) (sym boots_so) reads_begun;
+  claims = refl;
   put = put_so;
   bodies = subst (λ (bs : List (List ℕ)). HasBehind [] bs first_file) (sym all_so) reads_first;
   is = λ other. absurd (other refl);

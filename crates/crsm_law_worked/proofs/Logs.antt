@@ -67,6 +67,10 @@ room file body g b full = go full.1
         absurd (omega (arith, gate, size, limit, past))
     go (inr past) = let size = leb-true (length body) 1000 b in absurd (omega (arith, size, past))
 
+pub room_for_boot : IsFull [] first_boot_body → ⊥
+unfolding the_model first_boot_body is_cluster length_of may_stand stands
+room_for_boot = room [] first_boot_body refl refl
+
 pub room_for_first : IsFull begun_file first_kept_body → ⊥
 unfolding the_model begun_file file_with first_boot_body first_kept_body is_cluster length_of may_stand stands
 room_for_first = room begun_file first_kept_body refl refl
@@ -74,6 +78,10 @@ room_for_first = room begun_file first_kept_body refl refl
 pub room_for_lost : IsFull first_file lost_body → ⊥
 unfolding the_model first_file file_with first_boot_body first_kept_body lost_body is_cluster length_of may_stand stands
 room_for_lost = room first_file lost_body refl refl
+
+pub room_for_second_boot : IsFull first_file second_boot_body → ⊥
+unfolding the_model first_file file_with first_boot_body first_kept_body second_boot_body is_cluster length_of may_stand stands
+room_for_second_boot = room first_file second_boot_body refl refl
 
 pub room_for_change : IsFull second_begun_file change_body → ⊥
 unfolding the_model second_begun_file file_with first_boot_body first_kept_body second_boot_body change_body is_cluster length_of may_stand stands

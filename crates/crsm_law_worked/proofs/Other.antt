@@ -32,7 +32,7 @@ use Rattle.crsm_law_worked.specs.Files.{begun_file, first_boot_body, lost_body, 
 use Rattle.crsm_law_worked.specs.Orders.{order_of}
 use Rattle.crsm_law_worked.specs.Devices.{LeftSince, Moment, at, clock_with, packet}
 use Rattle.crsm_law_worked.proofs.Bytes.{are_bytes, small_too}
-use Rattle.crsm_law_worked.proofs.Logs.{behind_those, has_log, kept_other, reads_begun, reads_other, room_for_other}
+use Rattle.crsm_law_worked.proofs.Logs.{behind_those, has_log, kept_other, reads_begun, reads_other, room_for_boot, room_for_other}
 use Rattle.crsm_node.specs.declared.errors.NodeEnd.TheVariants as ends
 
 abbrev start : Replica
@@ -131,10 +131,14 @@ all_kept = boot_body 0 1 [] ∷ bodies_in_log start (turns_by_group other_life.g
 all_so : all_kept ≡ first_boot_body ∷ lost_body ∷ []
 all_so = ap (λ (b : List ℕ). b ∷ bodies_in_log start (turns_by_group other_life.groups)) boots_so ∙ ap (λ (bs : List (List ℕ)). first_boot_body ∷ bs) keeps_so
 
-put_so : PutInTurn (bodies_in_log start (turns_by_group other_life.groups)) begun_file other_file
+put_so : PutInTurn all_kept [] other_file
 unfolding PutInTurn
-put_so = subst (λ (bs : List (List ℕ)). PutInTurn bs begun_file other_file) (sym keeps_so)
-    (other_file, behind_those begun_file (first_boot_body ∷ []) reads_begun other_file (lost_body ∷ []) reads_other, room_for_other, refl)
+put_so = subst (λ (bs : List (List ℕ)). PutInTurn bs [] other_file) (sym all_so) (
+  begun_file,
+  reads_begun,
+  room_for_boot,
+  (other_file, behind_those begun_file (first_boot_body ∷ []) reads_begun other_file (lost_body ∷ []) reads_other, room_for_other, refl),
+)
 
 has_all : HasBehind [] all_kept other_file
 has_all = subst (λ (bs : List (List ℕ)). HasBehind [] bs other_file) (sym all_so) reads_other
@@ -156,9 +160,9 @@ left_in_life t c (inr (lt, inr (inr never))) = absurd never
 
 pub keeps : (peers : Vec ℕ Global) (one : length peers.items ≡ 1) → KeepsLife (order_of 1 peers one) other_life (at Moment.OtherBegins).disk (at Moment.OtherEnds).disk went_well
 keeps peers one = record {
-  begun = begun_file;
+  claimed_file = [];
   file = other_file;
-  boots = subst (λ (b : List ℕ). HasBehind [] (b ∷ []) begun_file) (sym boots_so) reads_begun;
+  claims = refl;
   put = put_so;
   bodies = has_all;
   is = λ _. refl;

@@ -31,19 +31,16 @@ module _ (peers : Vec ℕ Global) (one : length peers.items ≡ 1) where
   found_left file (inr never) = absurd never
 
   are_runs : (k : ℕ) → k < 15 → AreRunsOf at 1 k (runs_over peers one k)
-  are_runs zero lt = record {
-    follow = (
-      record { me = refl; count = refl; honest = refl; ran = (λ _. inr (first_run peers one), λ numbered. absurd (numbered refl)) },
-      no_body,
-      (
-        record { me = refl; count = refl; honest = refl; ran = (λ _. inr (second_run peers one), λ numbered. absurd (numbered refl)) },
-        found_left,
-        tt,
-      ),
-    );
-    few = omega arith;
-  }
-  are_runs (suc k) lt = record { follow = tt; few = omega arith }
+  are_runs zero lt = (
+    record { me = refl; count = refl; honest = refl; ran = (λ _. inr (first_run peers one), λ numbered. absurd (numbered refl)) },
+    no_body,
+    (
+      record { me = refl; count = refl; honest = refl; ran = (λ _. inr (second_run peers one), λ numbered. absurd (numbered refl)) },
+      found_left,
+      tt,
+    ),
+  )
+  are_runs (suc k) lt = tt
 
   were_lives : (k : ℕ) → k < 15 → Were at (runs_over peers one k) (lives_of k lives)
   unfolding lives_of first_run second_run

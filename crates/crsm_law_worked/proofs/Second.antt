@@ -34,7 +34,7 @@ use Rattle.crsm_law_worked.specs.Files.{bodies_found, first_boot_body, second_bo
 use Rattle.crsm_law_worked.specs.Orders.{order_of}
 use Rattle.crsm_law_worked.specs.Devices.{LeftSince, Moment, at, clock_with, packet}
 use Rattle.crsm_law_worked.proofs.Bytes.{are_bytes, small_too}
-use Rattle.crsm_law_worked.proofs.Logs.{behind_those, has_log, kept_found, kept_second, reads_changed, reads_first, reads_second, reads_second_begun, room_for_change, room_for_second}
+use Rattle.crsm_law_worked.proofs.Logs.{behind_those, has_log, kept_found, kept_second, reads_changed, reads_first, reads_second, reads_second_begun, room_for_change, room_for_second_boot, room_for_second}
 use Rattle.crsm_node.specs.declared.errors.NodeEnd.TheVariants as ends
 
 abbrev start : Replica
@@ -166,17 +166,22 @@ all_bodies = first_boot_body ∷ first_kept_body ∷ second_boot_body ∷ change
 has_behind : (c : List ℕ) (more : List (List ℕ)) → reading c ≡ found (bodies_found ++ more) → HasBehind first_file more c
 has_behind c more is = behind_those first_file bodies_found reads_first c more is
 
-put_so : PutInTurn (bodies_in_log start (turns_by_group second_life.groups)) second_begun_file second_file
+put_so : PutInTurn all_kept first_file second_file
 unfolding PutInTurn
-put_so = subst (λ (bs : List (List ℕ)). PutInTurn bs second_begun_file second_file) (sym keeps_so) (
-  changed_file,
-  behind_those second_begun_file (bodies_found ++ second_boot_body ∷ []) reads_second_begun changed_file (change_body ∷ []) reads_changed,
-  room_for_change,
+put_so = subst (λ (bs : List (List ℕ)). PutInTurn bs first_file second_file) (sym all_so) (
+  second_begun_file,
+  has_behind second_begun_file (second_boot_body ∷ []) reads_second_begun,
+  room_for_second_boot,
   (
-    second_file,
-    behind_those changed_file (bodies_found ++ second_boot_body ∷ change_body ∷ []) reads_changed second_file (second_kept_body ∷ []) reads_second,
-    room_for_second,
-    refl,
+    changed_file,
+    behind_those second_begun_file (bodies_found ++ second_boot_body ∷ []) reads_second_begun changed_file (change_body ∷ []) reads_changed,
+    room_for_change,
+    (
+      second_file,
+      behind_those changed_file (bodies_found ++ second_boot_body ∷ change_body ∷ []) reads_changed second_file (second_kept_body ∷ []) reads_second,
+      room_for_second,
+      refl,
+    ),
   ),
 )
 
@@ -206,9 +211,9 @@ left_in_life t c (inr (lt, inr (inr (inr never)))) = absurd never
 
 pub keeps : (peers : Vec ℕ Global) (one : length peers.items ≡ 1) → KeepsLife (order_of 4 peers one) second_life (at Moment.SecondBegins).disk (at Moment.SecondEnds).disk went_well
 keeps peers one = record {
-  begun = second_begun_file;
+  claimed_file = first_file;
   file = second_file;
-  boots = subst (λ (b : List ℕ). HasBehind first_file (b ∷ []) second_begun_file) (sym boots_so) (has_behind second_begun_file (second_boot_body ∷ []) reads_second_begun);
+  claims = refl;
   put = put_so;
   bodies = has_all;
   is = λ _. refl;

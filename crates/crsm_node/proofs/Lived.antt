@@ -22,7 +22,8 @@ use Rattle.crsm_replica_io.specs.Outgoing.{packets_for}
 use Rattle.crsm_spec.specs.Log.{Log}
 use Rattle.crsm_spec.specs.Node.{Turn, outputs_from}
 use Rattle.crsm_spec.specs.Replica.{Replica}
-use Rattle.crsm_shell.specs.Booting.{IsLeftByBoot, boot_body}
+use Rattle.crsm_shell.specs.Booting.{HasBoot, IsLeftByBoot, boot_body}
+use Rattle.crsm_shell.specs.Flushing.{IsFull}
 use Rattle.crsm_shell.specs.Shell.{HasLog, group_body, sends_of}
 use Rattle.crsm_node.specs.Kept.{HasBehind, HasLogOf, IsLeftOf, PutInTurn, bodies_in_log}
 use Rattle.crsm_node.specs.Received.{GivesAll, Passes, datagrams_in}
@@ -39,7 +40,7 @@ use Rattle.crsm_node.proofs.Disks.{not_begun, runs_on, synced_now}
 use Rattle.crsm_node.proofs.Ends.{all_synced}
 use Rattle.crsm_node.proofs.Ports.{both_same, passes_none, raised_none}
 use Rattle.crsm_node.proofs.SoFar.{puts_then}
-use Rattle.crsm_node.proofs.Starts.{boot_mine, boot_of, start_run, unlent_goes, unlent_run}
+use Rattle.crsm_node.proofs.Starts.{boot_mine, boot_of, same_bodies, same_log, start_run, unlent_goes, unlent_run}
 use Rattle.crsm_node.proofs.Turns.{same_replica}
 
 -- ---- the sheet
@@ -76,7 +77,7 @@ LogsAreOne = (me n : ℕ) (file : List ℕ) (a b : Log) → HasLog me n file a �
 
 module _ (order : NodeOrder) (life : Life) (m n o p : Meaning) (result : Result (Unit {0}) NodeError) (bodies : List (List ℕ)) (logs : LogsAreOne)
     (claimed : Claims m n order.cluster) (first : LeavesOnly m n (IsClaimedOrBefore m order.cluster)) (reads : reading n.seen ≡ found bodies) (kept : AreKept order.me order.n [] bodies life.found)
-    (added : reading o.seen ≡ found (bodies ++ boot_body order.me order.n life.found ∷ [])) (second : LeavesOnly n o (IsLeftByBoot order.me order.n n))
+    (room : IsFull n.seen (boot_body order.me order.n life.found) → ⊥) (added : reading o.seen ≡ found (bodies ++ boot_body order.me order.n life.found ∷ [])) (second : LeavesOnly n o (IsLeftByBoot order.me order.n n))
     (keeps : Keeps (booted order life.found) life.groups life.lost o p result) where
   abbrev boot : List ℕ
   boot = boot_body order.me order.n life.found
@@ -108,8 +109,13 @@ module _ (order : NodeOrder) (life : Life) (m n o p : Meaning) (result : Result 
   at_start file (inr h) = inr (record {
     prefix = boot ∷ [];
     of = (ours, refl);
-    has = h.2 ∙ ap (λ (log : Log). found (bodies_of m.seen ++ boot_body order.me order.n log ∷ [])) (logs order.me order.n m.seen h.0 life.found h.1 log_in);
+    has = behind_claim h.0 file h.1 h.2;
   })
+    where
+      behind_claim : (claimed_file file : List ℕ) → reading claimed_file ≡ reading m.seen → HasBoot order.me order.n claimed_file file → HasBehind m.seen (boot ∷ []) file
+      behind_claim claimed_file file same b =
+          b.3 ∙ ap (λ (xs : List (List ℕ)). found (xs ++ boot_body order.me order.n b.0 ∷ [])) (same_bodies claimed_file m.seen same)
+          ∙ ap (λ (log : Log). found (bodies_of m.seen ++ boot_body order.me order.n log ∷ [])) (logs order.me order.n m.seen b.0 life.found (same_log order claimed_file m.seen b.0 same b.1) log_in)
 
   in_turns : (file : List ℕ) → IsLeftOf o.seen ours file → IsLeftInLife order life m result file
   in_turns file h = inr (record { prefix = boot ∷ h.prefix; of = (h.of.0, ap (λ (xs : List (List ℕ)). boot ∷ xs) h.of.1); has = behind h.prefix file h.has })
@@ -137,12 +143,17 @@ module _ (order : NodeOrder) (life : Life) (m n o p : Meaning) (result : Result 
   at_end (Err errors.Failed) c h = behind kept_bodies c h
   at_end (Err errors.NoMemory) c h = behind kept_bodies c h
 
+  -- the boot, and then the groups
+  put_all : PutInTurn kept_bodies o.seen keeps.file → PutInTurn (boot ∷ kept_bodies) n.seen keeps.file
+  unfolding PutInTurn
+  put_all put = (o.seen, added ∙ ap (λ (xs : List (List ℕ)). found (xs ++ boot ∷ [])) (sym (ap bodies_in reads)), room, put)
+
   pub life_keeps : KeepsLife order life (unlent_disk m) (unlent_disk p) result
   life_keeps = record {
-    begun = o.seen;
+    claimed_file = n.seen;
     file = keeps.file;
-    boots = begun;
-    put = keeps.put;
+    claims = claimed.bodies;
+    put = put_all keeps.put;
     bodies = behind (bodies_in_log (booted order life.found) (turns_by_group life.groups)) keeps.file keeps.bodies;
     is = keeps.is;
     log = logged;
@@ -189,7 +200,7 @@ life_of order log groups lost = record { me = order.me; found = log; groups = gr
 pub runs_life : (order : NodeOrder) (log : Log) (groups : List Group) (lost : List (Turn × ℕ)) (m n o p : Meaning) (a b : PortMeaning) (before after : Option Readings) (had has : Option (List ℕ)) (faults more : ℕ)
     (result : Result (Unit {0}) NodeError) (end : NodeEnd) (bodies : List (List ℕ)) → LogsAreOne → n.honest ≡ m.honest → n.fill ≡ m.fill → m.faults ≤ n.faults → Goes n o →
     (IsTrue m.honest → Claims m n order.cluster) → (IsTrue m.honest → LeavesOnly m n (IsClaimedOrBefore m order.cluster)) → (IsTrue n.honest → reading n.seen ≡ found bodies) → AreKept order.me order.n [] bodies log →
-    (IsTrue n.honest → reading o.seen ≡ found (bodies ++ boot_body order.me order.n log ∷ [])) → (IsTrue n.honest → LeavesOnly n o (IsLeftByBoot order.me order.n n)) →
+    (IsTrue n.honest → (IsFull n.seen (boot_body order.me order.n log) → ⊥) × (reading o.seen ≡ found (bodies ++ boot_body order.me order.n log ∷ []))) → (IsTrue n.honest → LeavesOnly n o (IsLeftByBoot order.me order.n n)) →
     Lived order log groups lost before after a b o p result → end ≡ end_of result → WritesLife bodies (life_of order log groups lost) had has result →
     EndsLife order (life_of order log groups lost) (record { disk = unlent_disk m; port = unlent_port a; clock = before; sheet = had; faults = faults }) (record { disk = unlent_disk p; port = unlent_port b; clock = after; sheet = has; faults = more }) result →
     RunsLife order (record { disk = unlent_disk m; port = unlent_port a; clock = before; sheet = had; faults = faults }) (record { disk = unlent_disk p; port = unlent_port b; clock = after; sheet = has; faults = more }) end
@@ -215,7 +226,7 @@ runs_life order log groups lost m n o p a b before after had has faults more res
       takes = h.takes;
       carries = carries_unlent (peers_in order) (booted order log) unwatched (kept_turns groups ++ lost) groups a b h.carries;
       goes = unlent_goes p m (h.goes.honest ∙ booted_on.honest ∙ trust) (h.goes.fill ∙ booted_on.fill ∙ fill) (omega (arith, first, second, third));
-      keeps = λ honest. life_keeps order life m n o p result bodies logs (claimed honest) (left honest) (reads (trusts honest)) kept (added (trusts honest)) (left_by (trusts honest)) (h.keeps (trusts' honest));
+      keeps = λ honest. life_keeps order life m n o p result bodies logs (claimed honest) (left honest) (reads (trusts honest)) kept (added (trusts honest)).0 (added (trusts honest)).1 (left_by (trusts honest)) (h.keeps (trusts' honest));
       writes = writes;
       done = done;
     }

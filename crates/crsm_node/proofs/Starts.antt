@@ -59,7 +59,7 @@ unlent_out order m n ends.WriteFault h = h
 
 -- ---- files that read the same
 
-same_bodies : (a b : List ℕ) → reading a ≡ reading b → bodies_of a ≡ bodies_of b
+pub same_bodies : (a b : List ℕ) → reading a ≡ reading b → bodies_of a ≡ bodies_of b
 same_bodies a b is = ap bodies_in is
 
 pub same_log : (order : NodeOrder) (a b : List ℕ) (log : Log) → reading a ≡ reading b → HasLog order.me order.n a log → HasLog order.me order.n b log
@@ -124,7 +124,7 @@ boot_left : (order : NodeOrder) (m n : Meaning) → Claims m n order.cluster →
 boot_left order m n claimed before file (inl (inl was)) = before file was
 boot_left order m n claimed before file (inl (inr reads)) = inl (inr (reads ∙ claimed.bodies))
 boot_left order m n claimed before file (inr h) =
-    inr (h.0, same_log order n.seen m.seen h.0 claimed.bodies h.1, h.2 ∙ ap (λ (xs : List (List ℕ)). found (xs ++ boot_body order.me order.n h.0 ∷ [])) (same_bodies n.seen m.seen claimed.bodies))
+    inr (n.seen, claimed.bodies, h)
 
 -- a claim, and then a boot
 pub start_run : (order : NodeOrder) (m n o : Meaning) → Claims m n order.cluster → LeavesOnly m n (IsClaimedOrBefore m order.cluster) → LeavesOnly n o (IsLeftByBoot order.me order.n n) → LeavesOnly m o (IsLeftAtStart order m)

@@ -20,7 +20,7 @@ use Rattle.crsm_port.specs.Meaning.{Framing, Meaning as PortMeaning}
 use Rattle.crsm_replica_detector.specs.Watching.{unwatched}
 use Rattle.crsm_spec_process.specs.Turns.{replica_after}
 use Rattle.crsm_replica_detector.specs.declared.detector.Detector.{Detector}
-use Rattle.crsm_shell.specs.Booting.{HasFullLog, IsBadLog, ReadsAsBefore, boot_body}
+use Rattle.crsm_shell.specs.Booting.{HasBoot, HasFullLog, IsBadLog, ReadsAsBefore, boot_body}
 use Rattle.crsm_shell.specs.Shell.{HasLog}
 use Rattle.crsm_shell.specs.declared.shell.Shell.{Shell}
 use Rattle.crsm_node.specs.Devices.{node_of}
@@ -99,7 +99,7 @@ StaysOut order old new ends.WriteFault = ⊥
 -- what a crash could leave before, or the bodies of before, or these followed by a boot on their log
 abbrev pub IsLeftAtStart : NodeOrder → DiskMeaning → List ℕ → Type 0
 IsLeftAtStart order old file =
-    ReadsAsBefore old file ⊎ ((log : Log) × HasLog order.me order.n old.seen log × (reading file ≡ found (bodies_of old.seen ++ boot_body order.me order.n log ∷ [])))
+    ReadsAsBefore old file ⊎ ((claimed_file : List ℕ) × (reading claimed_file ≡ reading old.seen) × HasBoot order.me order.n claimed_file file)
 
 -- Nothing is received, sent or written.
 pub record NotBooted (order : NodeOrder) (old new : Devices) (end : NodeEnd) : Type 0 where
@@ -128,13 +128,14 @@ IsLeftInLife order life old result file =
     ReadsAsBefore old file ⊎ IsLeftOf old.seen (boot_body order.me order.n life.found ∷ bodies_in_log (booted order life.found) (maybe_kept life.groups life.lost result)) file
 
 -- The content of the disk: the bodies that were found, followed by the boot's, and then one for each group that has a
--- record, each put while the log was not full; and a crash at any moment leaves a prefix of these. Nothing of a group was
--- sent before it was synced: a crash at the end leaves all groups whose output was. The log is that of the life.
+-- record, each put while the log, which was claimed before, was not full; and a crash at any moment leaves a prefix of
+-- these. Nothing of a group was sent before it was synced: a crash at the end leaves all groups whose output was. The log
+-- is that of the life.
 pub record KeepsLife (order : NodeOrder) (life : Life) (old new : DiskMeaning) (result : Result (Unit {0}) NodeError) : Type 0 where
-  pub begun : List ℕ
+  pub claimed_file : List ℕ
   pub file : List ℕ
-  pub boots : HasBehind old.seen (boot_body order.me order.n life.found ∷ []) begun
-  pub put : PutInTurn (bodies_in_log (booted order life.found) (turns_by_group life.groups)) begun file
+  pub claims : reading claimed_file ≡ reading old.seen
+  pub put : PutInTurn (boot_body order.me order.n life.found ∷ bodies_in_log (booted order life.found) (turns_by_group life.groups)) claimed_file file
   pub bodies : HasBehind old.seen (boot_body order.me order.n life.found ∷ bodies_in_log (booted order life.found) (turns_by_group life.groups)) file
   pub is : (result ≡ Err errors.DiskFault → ⊥) → new.seen ≡ file
   pub log : HasLog order.me order.n file (replica_after (booted order life.found) (kept_turns life.groups)).log

@@ -11,7 +11,7 @@ use Rattle.crsm_core.specs.declared.replica.Core.{Core}
 use Rattle.crsm_core.specs.Core.{CoreStands}
 use Rattle.crsm_port_faults.specs.Plan.{Plan}
 use Rattle.crsm_disk.specs.Meaning.{LeavesOnly, Meaning}
-use Rattle.crsm_disk.proofs.Moments.{joined, weaker}
+use Rattle.crsm_disk.proofs.Moments.{joined, unchanged, weaker}
 use Rattle.crsm_port_image.specs.Calls.{Call, History}
 use Rattle.crsm_ledger.specs.Recovered.{AreKept, IsBadAt}
 use Rattle.crsm_log.specs.declared.errors.MountError.{MountError}
@@ -57,6 +57,13 @@ log_full errors.LogFull is = refl
 log_full errors.PortFault is = absurd (cc)
 log_full errors.Failed is = absurd (cc)
 log_full errors.NoMemory is = absurd (cc)
+
+fault_or_not : (why : TurnError) → (why ≡ errors.DiskFault) ⊎ (why ≡ errors.DiskFault → ⊥)
+fault_or_not errors.DiskFault = inl refl
+fault_or_not errors.LogFull = inr (λ is. absurd (cc))
+fault_or_not errors.PortFault = inr (λ is. absurd (cc))
+fault_or_not errors.Failed = inr (λ is. absurd (cc))
+fault_or_not errors.NoMemory = inr (λ is. absurd (cc))
 
 no_bad_log : (why : TurnError) (entry kind : ℕ) → keep_failure why ≡ boots.BadLog entry kind → ⊥
 no_bad_log errors.DiskFault entry kind is = cc
@@ -136,6 +143,10 @@ module _ (one : (a b : List Rec) (s : List ℕ) → SpeltBody a s → SpeltBody 
   served_all : IsTrue old.honest → (p : Plan) → old.plan ≡ Some p → Serves (refusal_count (reading old.seen) old.seen) p.good
   served_all honest p told = mounted_served me n old mid gate bodies mounts honest p told
 
+  -- the boot fits behind the file that was found
+  room : IsTrue old.honest → (IsPast gate begun.body → ⊥) → IsFull old.seen (boot_body me n log) → ⊥
+  room honest fits full = fits (subst (IsPast gate) (sym begins.body) (subst (λ (k : ℕ). IsPast k (boot_body me n log)) (sym (gate_is honest)) full))
+
   -- ---- it is kept
 
   module _ {D : Type 0} {g : _} (b : Booted D g) (new : Meaning) (booted : IsBooted b begun bodies) (well : KeptWell gate begun.body mid new) where
@@ -173,31 +184,44 @@ module _ (one : (a b : List Rec) (s : List ℕ) → SpeltBody a s → SpeltBody 
           let used = mounts.good honest p told in
           let more = well.plan used.left.0 (honest_mid honest) used.left.1 in
           used_more (mount_count old.seen) 4 p used.left.0 new.plan used.served used.left.2 (subst (λ (k : ℕ). Used k used.left.0 new.plan) (some_count begun.body body_some) more);
-      fits = λ full. well.fits (subst (IsPast gate) (sym begins.body) (subst (λ (k : ℕ). IsPast k (boot_body me n log)) (sym (gate_is honest)) full));
+      fits = room honest well.fits;
     }
 
-    pub boot_added : IsTrue old.honest → AddsBoot me n b new
+    pub boot_added : IsTrue old.honest → AddsBoot me n b old new
     boot_added honest other kept =
-        let same = one_log other (subst (λ (bs : List (List ℕ)). AreKept me n [] bs other) booted.found kept) in
-        adds_some begun.body mid.seen new.seen body_some (well.added (honest_mid honest))
-        ∙ ap (λ (bs : List (List ℕ)). found (bs ++ begun.body ∷ [])) (same_bodies honest ∙ found_bodies honest ∙ sym booted.found)
-        ∙ ap (λ (body : List ℕ). found (b.bodies ++ body ∷ [])) (begins.body ∙ ap (boot_body me n) same)
+        let same = one_log other (subst (λ (bs : List (List ℕ)). AreKept me n [] bs other) booted.found kept) in (
+          subst (λ (l : Log). IsFull old.seen (boot_body me n l) → ⊥) same (room honest well.fits),
+          adds_some begun.body mid.seen new.seen body_some (well.added (honest_mid honest))
+          ∙ ap (λ (bs : List (List ℕ)). found (bs ++ begun.body ∷ [])) (same_bodies honest ∙ found_bodies honest ∙ sym booted.found)
+          ∙ ap (λ (body : List ℕ). found (b.bodies ++ body ∷ [])) (begins.body ∙ ap (boot_body me n) same),
+        )
 
   -- ---- a crash at any moment
 
-  pub left_by_boot : (new : Meaning) → IsTrue old.honest → LeavesOnly mid new (IsLeft (bodies_of mid.seen) begun.body) → LeavesOnly old new (IsLeftByBoot me n old)
-  left_by_boot new honest left =
+  left_by_mount : IsTrue old.honest → LeavesOnly old mid (IsLeftByBoot me n old)
+  left_by_mount honest = weaker old mid (IsAsBefore old) (IsLeftByBoot me n old) (mounts.any_moment honest) (λ c h. inl (as_read old c h))
+
+  pub left_by_boot : (new : Meaning) → IsTrue old.honest → (IsPast gate begun.body → ⊥) → LeavesOnly mid new (IsLeft (bodies_of mid.seen) begun.body) → LeavesOnly old new (IsLeftByBoot me n old)
+  left_by_boot new honest fits left =
       let P = IsLeftByBoot me n old in
-      joined old mid new P (weaker old mid (IsAsBefore old) P (mounts.any_moment honest) (λ c h. inl (as_read old c h)))
+      joined old mid new P (left_by_mount honest)
       (weaker mid new (IsLeft (bodies_of mid.seen) begun.body) P left (λ c. elim [
         | inl is ↦ inl (inr (is ∙ sym (mounts.settled honest).whole ∙ same_reading honest))
         | inr is ↦ inr (
           log,
           there_before honest,
+          room honest fits,
           is.1 ∙ ap (λ (bs : List (List ℕ)). found (bs ++ begun.body ∷ [])) (same_bodies honest)
               ∙ ap (λ (body : List ℕ). found (bodies_of old.seen ++ body ∷ [])) begins.body,
         )
       ]))
+
+  -- where it is not kept, and only a fault of the disk leaves it there
+  pub left_by_refused : (new : Meaning) (why : BootError) → IsTrue old.honest → FailsToKeep gate begun.body mid new why → LeavesOnly old new (IsLeftByBoot me n old)
+  left_by_refused new why honest f = elim (fault_or_not f.turn) [
+    | inl is ↦ left_by_boot new honest (f.not_kept.fits is) (f.not_kept.any_moment (honest_mid honest))
+    | inr other ↦ unchanged old mid new (IsLeftByBoot me n old) (left_by_mount honest) (f.not_kept.unwritten other)
+  ]
 
   pub any_moment : (new : Meaning) → IsTrue old.honest → LeavesOnly mid new (IsLeft (bodies_of mid.seen) begun.body) → LeavesOnly old new (IsBootedOrBefore me n log old)
   any_moment new honest left =

@@ -76,13 +76,19 @@ ReadsAsBefore old file = old.may_leave file ⊎ (reading file ≡ reading old.se
 abbrev pub IsBootedOrBefore : (me n : ℕ) → Log → Meaning → List ℕ → Type 0
 IsBootedOrBefore me n log old file = ReadsAsBefore old file ⊎ HasLog me n file (boot me n log).replica.log
 
+-- the file has the log that was found and the boot on it, for which there was room
+abbrev pub HasBoot : (me n : ℕ) → (found_file file : List ℕ) → Type 0
+HasBoot me n found_file file =
+    (log : Log) × HasLog me n found_file log × (IsFull found_file (boot_body me n log) → ⊥) × (reading file ≡ found (bodies_of found_file ++ boot_body me n log ∷ []))
+
 -- a crash leaves what it might have left before, or the bodies as they were found or with the boot's behind them
 abbrev pub IsLeftByBoot : (me n : ℕ) → Meaning → List ℕ → Type 0
-IsLeftByBoot me n old file = ReadsAsBefore old file ⊎ ((log : Log) × HasLog me n old.seen log × (reading file ≡ found (bodies_of old.seen ++ boot_body me n log ∷ [])))
+IsLeftByBoot me n old file = ReadsAsBefore old file ⊎ HasBoot me n old.seen file
 
--- the body of the boot is behind those that were found
-abbrev pub AddsBoot : {D : Type 0} {g : _} → (me n : ℕ) → Booted D g → Meaning → Type 0
-AddsBoot me n b new = (log : Log) → AreKept me n [] b.bodies log → reading new.seen ≡ found (b.bodies ++ boot_body me n log ∷ [])
+-- the body of the boot, for which there was room, is behind those that were found
+abbrev pub AddsBoot : {D : Type 0} {g : _} → (me n : ℕ) → Booted D g → (old new : Meaning) → Type 0
+AddsBoot me n b old new =
+    (log : Log) → AreKept me n [] b.bodies log → (IsFull old.seen (boot_body me n log) → ⊥) × (reading new.seen ≡ found (b.bodies ++ boot_body me n log ∷ []))
 
 -- ---- the boot that is kept on a mounted log
 

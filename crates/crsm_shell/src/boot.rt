@@ -61,7 +61,7 @@ impl<D: Disk> Shell<D> {
         ensures stands { WhereHasLog me n (D.meaning disk) (λ log. IfOk result (λ b. Boots b (D.meaning (disk_of b.shell)) me n log × BootsOn me n log (D.meaning disk) (D.meaning (disk_of b.shell)))) }
         ensures peers { IfOk result (λ b. peers_of b.shell ≡ peers.now) }
         ensures goes { IfOk result (λ b. Goes (D.meaning disk) (D.meaning (disk_of b.shell))) }
-        ensures added { IsTrue (D.meaning disk).honest → IfOk result (λ b. AddsBoot me n b (D.meaning (disk_of b.shell))) }
+        ensures added { IsTrue (D.meaning disk).honest → IfOk result (λ b. AddsBoot me n b (D.meaning disk) (D.meaning (disk_of b.shell))) }
 
         // The reason of a refusal.
         ensures refused { IfErr result (λ e. RefusesBoot me n (D.meaning disk) (D.meaning e.1) e.0) }

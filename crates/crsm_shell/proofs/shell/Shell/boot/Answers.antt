@@ -7,7 +7,7 @@ use Rattle.crsm_spec.specs.Log.{Log}
 use Rattle.crsm_disk.specs.Meaning.{LeavesOnly}
 use Rattle.crsm_shell.specs.Booting.{Boots, BootsOn, IsBootedOrBefore, RefusesBoot}
 use Rattle.crsm_shell.specs.Words.{disk_of}
-use Rattle.crsm_shell.proofs.BootLemmas.{any_moment, boot_added, boots_on, boots_shell, left_by_boot, not_begun, not_mounted, one_log, refuses, same_log}
+use Rattle.crsm_shell.proofs.BootLemmas.{any_moment, boot_added, boots_on, boots_shell, left_by_boot, left_by_refused, not_begun, not_mounted, one_log, refuses, same_log}
 use Rattle.crsm_shell.proofs.Boots.{goes_behind}
 use Rattle.crsm_shell.proofs.shell.Shell.boot.Goals as goal
 
@@ -132,7 +132,7 @@ returns-in-Ok-begin-clause-left g c honest =
     let w = c.in-Ok-begin.ensures.found in
     let at_mid : IsTrue mid.honest = c.in-Ok.ensures.ok.goes.honest ∙ honest in
     IfOk-weaker c.keep_boot.result _ _ (λ b h.
-    left_by_boot one c.args.me c.args.n old mid gate bodies w.0 begun c.in-Ok.ensures.ok w.1 w.2 (g.D.Disk.meaning (disk_of b.shell)) honest (h.1.any_moment at_mid)) c.keep_boot.ensures.kept
+    left_by_boot one c.args.me c.args.n old mid gate bodies w.0 begun c.in-Ok.ensures.ok w.1 w.2 (g.D.Disk.meaning (disk_of b.shell)) honest h.1.fits (h.1.any_moment at_mid)) c.keep_boot.ensures.kept
 
 pub returns-in-Ok-begin-clause-left_refused : goal.returns-in-Ok-begin-clause-left_refused
 returns-in-Ok-begin-clause-left_refused g c honest =
@@ -144,9 +144,8 @@ returns-in-Ok-begin-clause-left_refused g c honest =
     let gate = logs.gate_of log in
     let begun = c.in-Ok-begin.begun in
     let w = c.in-Ok-begin.ensures.found in
-    let at_mid : IsTrue mid.honest = c.in-Ok.ensures.ok.goes.honest ∙ honest in
     IfErr-weaker c.keep_boot.result _ _ (λ e h.
-    left_by_boot one c.args.me c.args.n old mid gate bodies w.0 begun c.in-Ok.ensures.ok w.1 w.2 (g.D.Disk.meaning e.1) honest (h.not_kept.any_moment at_mid)) c.keep_boot.ensures.not_kept
+    left_by_refused one c.args.me c.args.n old mid gate bodies w.0 begun c.in-Ok.ensures.ok w.1 w.2 (g.D.Disk.meaning e.1) e.0 honest h) c.keep_boot.ensures.not_kept
 
 -- ---- it is not mounted, or not begun
 
