@@ -1,0 +1,57 @@
+-- Disks with counters of their own: calls that are handed on, and calls that are not.
+use Rattle.std.proofs.Common.{◌≡◌, ℕ, ◌+◌, ◌≤◌, max, min, List, length, take, drop, refl, sym, ap, inl, arith}
+use Rattle.std.specs.Prelude.{Option, None, Result, Ok, Err, OnErr, OnOk, IfSome, IsTrue}
+use Rattle.crsm_base.specs.declared.memory.Failed.{Failed}
+use Rattle.crsm_base.specs.declared.memory.NoMemory.{NoMemory}
+use Rattle.crsm_port_faults.specs.Counts.{Rose}
+use Rattle.crsm_port_faults.specs.Plan.{MakesRoom, Spends}
+use Rattle.crsm_port_image.specs.Bytes.{Shortened, Torn}
+use Rattle.crsm_disk.specs.Contract.{Answers, Goes, Renews, Reserves}
+use Rattle.crsm_disk.specs.Meaning.{Elapses, Meaning, Same}
+use Rattle.crsm_law_killed.specs.Stopping.{disk_with}
+
+no_plan : {T : Type 0} (calls bytes : ℕ) (result : Result T Failed) → Spends calls bytes None None result
+no_plan calls bytes result = record { untold = λ is. is; told = λ p is. absurd (cc); exact = λ p is. absurd (cc); spends = λ p is. absurd (cc) }
+
+-- ---- handed on
+
+pub same_below : (a b : Meaning) (f g : ℕ) (r s : Option ℕ) → Same a b → Same (disk_with f r a) (disk_with g s b)
+same_below a b f g r s same = record { seen = same.seen; images = same.images; moment = same.moment; left = same.left; history = same.history; honest = same.honest; borrowed_as = same.borrowed_as }
+
+elapses_below : (a b : Meaning) (f g : ℕ) (r s : Option ℕ) → Elapses a b → Elapses (disk_with f r a) (disk_with g s b)
+elapses_below a b f g r s time = record { later = time.later; nothing_else = time.nothing_else; keeps = time.keeps }
+
+pub goes_below : (step : List ℕ → List ℕ → Type 0) (a b : Meaning) (f g : ℕ) (r s : Option ℕ) → Goes step a b → Goes step (disk_with f r a) (disk_with g s b)
+goes_below step a b f g r s goes = record { follows = goes.follows; time = elapses_below a b f g r s goes.time }
+
+pub answers_below : {T : Type 0} (calls bytes : ℕ) (a b : Meaning) (f g : ℕ) (r s : Option ℕ) (result : Result T Failed) → f ≤ g → OnErr result (Rose f g) → Answers calls bytes a b result →
+    Answers calls bytes (disk_with f r a) (disk_with g s b) result
+answers_below calls bytes a b f g r s result later failed answer =
+    record { honest = answer.honest; fill = answer.fill; borrowed_as = answer.borrowed_as; later = later; failed = failed; plan = no_plan calls bytes result }
+
+-- ---- not handed on
+
+same_as_before : (m : Meaning) → Same m m
+same_as_before m = record { seen = refl; images = λ c. ((λ is. is), λ is. is); moment = refl; left = λ t c. ((λ is. is), λ is. is); history = refl; honest = refl; borrowed_as = refl }
+
+pub stopped_same : (m : Meaning) (f g : ℕ) (r : Option ℕ) → Same (disk_with f r m) (disk_with g r m)
+stopped_same m f g r = same_below m m f g r r (same_as_before m)
+
+pub stopped_goes : (step : List ℕ → List ℕ → Type 0) (m : Meaning) (f g : ℕ) (r : Option ℕ) → ((c : List ℕ) → step c c) → Goes step (disk_with f r m) (disk_with g r m)
+stopped_goes step m f g r stays = record {
+  follows = λ c is. (c, is, stays c);
+  time = record { later = omega arith; nothing_else = λ t c le was. inl was; keeps = λ t c le was. was };
+}
+
+pub stopped_answers : {T : Type 0} (calls bytes : ℕ) (m : Meaning) (f g : ℕ) (r : Option ℕ) (result : Result T Failed) → f ≤ g → OnErr result (Rose f g) →
+    Answers calls bytes (disk_with f r m) (disk_with g r m) result
+stopped_answers calls bytes m f g r result later failed =
+    record { honest = refl; fill = refl; borrowed_as = refl; later = later; failed = failed; plan = no_plan calls bytes result }
+
+pub torn_stays : (at n : ℕ) (c : List ℕ) → Torn at n c c
+torn_stays at n c = record { before = grind (arith); after = refl; no_shorter = omega arith; no_longer = omega arith }
+
+pub shortened_stays : (n : ℕ) (c : List ℕ) → Shortened n c c
+shortened_stays n c = record { no_shorter = omega arith; prefix = grind (arith) }
+
+pub ruleset stopped_rules = (same_below, goes_below, answers_below, stopped_same, stopped_goes, stopped_answers, torn_stays, shortened_stays)

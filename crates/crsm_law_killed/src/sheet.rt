@@ -1,0 +1,51 @@
+//! `StoppingSink`: a sink that does nothing from some call on.
+
+use crsm_base::Failed;
+use crsm_io::Sink;
+use crsm_port_faults::raise;
+
+/// A sink over another one, which hands on a number of calls and fails at all further ones, without calling the other.
+#[derive(Drop)]
+pub struct StoppingSink<O> {
+    inner: O,
+    /// How many calls are still handed on.
+    left: u64,
+    faults: u64,
+}
+
+impl<O: Drop> StoppingSink<O> {
+    /// Returns a sink that hands on `calls` calls to this one.
+    pub fn new(inner: O, calls: u64) -> StoppingSink<O>
+        ensures { result.inner ≡ inner }
+    {
+        StoppingSink {
+            inner,
+            left: calls,
+            faults: 0,
+        }
+    }
+
+    /// Returns the sink below.
+    pub fn into_inner(self) -> O
+        ensures { result ≡ self.inner }
+    {
+        self.inner
+    }
+}
+
+impl<O: Sink> Sink for StoppingSink<O> {
+    ghost written = { λ s. O.written s.inner };
+
+    ghost faults = { λ s. s.faults };
+
+    fn write(&mut self, piece: &[u8]) -> Result<usize, Failed> {
+        if self.left > 0 {
+            self.left -= 1;
+            if let Ok(count) = self.inner.write(piece) {
+                return Ok(count);
+            }
+        }
+        raise(&mut self.faults);
+        Err(Failed)
+    }
+}
