@@ -53,25 +53,25 @@ not_left (inr (inr never)) = absurd never
 
 -- ---- a disk that forgets
 
-module _ (peers : Vec ℕ Global) (one : length peers.items ≡ 1) where
-  pub lost_files_break : LostFilesBreak peers one
+module _ (peers : Vec ℕ Global) (two : length peers.items ≡ 2) where
+  pub lost_files_break : LostFilesBreak peers two
   unfolding first.first_run other.other_run
   lost_files_break = record {
-    first = record { me = refl; count = refl; honest = refl; ran = (λ _. inr (first.first_run peers one), λ numbered. absurd (numbered refl)) };
-    second = record { me = refl; count = refl; honest = refl; ran = (λ _. inr (other.other_run peers one), λ numbered. absurd (numbered refl)) };
+    first = record { me = refl; count = refl; honest = refl; ran = (λ _. inr (first.first_run peers two), λ numbered. absurd (numbered refl)) };
+    second = record { me = refl; count = refl; honest = refl; ran = (λ _. inr (other.other_run peers two), λ numbered. absurd (numbered refl)) };
     finds = inl refl;
     not_left = not_left;
     were = (
       first_life ∷ [],
       other_life ∷ [],
       refl,
-      (λ _. inr (first.first_run peers one, inl refl), λ numbered. absurd (numbered refl)),
-      (other_life ∷ [], [], refl, (λ _. inr (other.other_run peers one, inl refl), λ numbered. absurd (numbered refl)), refl),
+      (λ _. inr (first.first_run peers two, inl refl), λ numbered. absurd (numbered refl)),
+      (other_life ∷ [], [], refl, (λ _. inr (other.other_run peers two, inl refl), λ numbered. absurd (numbered refl)), refl),
     );
     disagree = disagree;
   }
 
-  forgotten : RunsLife (order_of 3 peers one) (forgetting Moment.FirstBegins) (forgetting Moment.FirstEnds) ends.DiskFault
+  forgotten : RunsLife (order_of 3 peers two) (forgetting Moment.FirstBegins) (forgetting Moment.FirstEnds) ends.DiskFault
   unfolding kept_turns
   forgotten = record {
     life = first_life;
@@ -94,7 +94,7 @@ module _ (peers : Vec ℕ Global) (one : length peers.items ≡ 1) where
     done = omega arith;
   }
 
-  again : RunsLife (order_of 1 peers one) (forgetting Moment.OtherBegins) (forgetting Moment.OtherEnds) ends.Done
+  again : RunsLife (order_of 1 peers two) (forgetting Moment.OtherBegins) (forgetting Moment.OtherEnds) ends.Done
   unfolding kept_turns
   again = record {
     life = other_life;
@@ -117,7 +117,7 @@ module _ (peers : Vec ℕ Global) (one : length peers.items ≡ 1) where
     done = (refl, refl);
   }
 
-  pub forgetful_disks_break : ForgetfulDisksBreak peers one
+  pub forgetful_disks_break : ForgetfulDisksBreak peers two
   unfolding forgotten again
   forgetful_disks_break = record {
     first = (λ _. inr forgotten, λ numbered. absurd (numbered refl));

@@ -199,8 +199,8 @@ left_in_life t c (inr (lt, inl is)) = inl (inl (inl is))
 left_in_life t c (inr (lt, inr (inl is))) = inr (prefix_is_left (first_boot_body ∷ []) (first_kept_body ∷ lost_body ∷ []) begun_file c refl reads_begun is)
 left_in_life t c (inr (lt, inr (inr never))) = absurd never
 
-pub keeps : (peers : Vec ℕ Global) (one : length peers.items ≡ 1) → KeepsLife (order_of 3 peers one) first_life (at Moment.FirstBegins).disk (at Moment.FirstEnds).disk stopped
-keeps peers one = record {
+pub keeps : (peers : Vec ℕ Global) (two : length peers.items ≡ 2) → KeepsLife (order_of 3 peers two) first_life (at Moment.FirstBegins).disk (at Moment.FirstEnds).disk stopped
+keeps peers two = record {
   claimed_file = [];
   file = first_file;
   claims = refl;
@@ -219,9 +219,9 @@ keeps peers one = record {
 
 -- ---- the run
 
-unfoldable pub first_run : (peers : Vec ℕ Global) (one : length peers.items ≡ 1) → RunsLife (order_of 3 peers one) (at Moment.FirstBegins) (at Moment.FirstEnds) ends.DiskFault
+unfoldable pub first_run : (peers : Vec ℕ Global) (two : length peers.items ≡ 2) → RunsLife (order_of 3 peers two) (at Moment.FirstBegins) (at Moment.FirstEnds) ends.DiskFault
 unfolding kept_turns
-first_run peers one = record {
+first_run peers two = record {
   life = first_life;
   bodies = [];
   result = stopped;
@@ -237,7 +237,7 @@ first_run peers one = record {
   takes = can_be_taken;
   carries = carries peers.items;
   goes = record { honest = refl; fill = refl; borrowed_as = refl; later = omega arith };
-  keeps = λ _. keeps peers one;
+  keeps = λ _. keeps peers two;
   writes = refl;
   done = omega arith;
 }

@@ -41,7 +41,7 @@ are_events = by_number (λ k. events_of k happened ≡ flat_map life_events (liv
 
 -- ---- the files
 
-is_small : (bodies : List (List ℕ)) → nat_le (size_of bodies) 1000 ≡ true → size_of bodies ≤ 2 ^ 50
+pub is_small : (bodies : List (List ℕ)) → nat_le (size_of bodies) 1000 ≡ true → size_of bodies ≤ 2 ^ 50
 is_small bodies le = let few = leb-true (size_of bodies) 1000 le in omega (arith, few)
 
 first_small : size_of bodies_found ≤ 2 ^ 50
@@ -106,7 +106,7 @@ all_speak = (
   (asks 0 asked put_b read_back, (tt, (tt, (tt, (asks 0 asked_too put_c read_too, (tt, (tt, (tt, (tt, (tt, (tt, (tt, (tt, (asks 0 asked_too put_c read_too, (tt, (tt, (tt, tt))))))))))))))))),
 )
 
-at_place : {A : Type 0} (P : A → Type 0) (xs : List A) (i : ℕ) (x : A) → AllByRecursion P xs → slice_get xs i ≡ Some x → P x
+pub at_place : {A : Type 0} (P : A → Type 0) (xs : List A) (i : ℕ) (x : A) → AllByRecursion P xs → slice_get xs i ≡ Some x → P x
 at_place P [] i x all is = absurd (none-some x is)
 at_place P (y ∷ ys) zero x all is = subst P (same_Some y x is) all.0
 at_place P (y ∷ ys) (suc i) x all is = at_place P ys i x all.1 is

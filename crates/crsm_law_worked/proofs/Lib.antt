@@ -5,4 +5,8 @@ pub mod Second
 pub mod Other
 pub mod History
 pub mod Runs
+pub mod Third
+pub mod New
+pub mod KeptHistory
+pub mod KeptRuns
 pub mod Breaking

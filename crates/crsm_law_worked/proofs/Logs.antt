@@ -8,14 +8,15 @@ use Rattle.crsm_base.specs.Records.{FitsRec, SpeltBody, body_bytes}
 use Rattle.crsm_base.specs.Spelling.{FitsBallot, FitsCommand, FitsDecision, FitsEntry, FitsStamp}
 use Rattle.crsm_spec.specs.Types.{Rec}
 use Rattle.crsm_spec.specs.Log.{Log}
+use Rattle.crsm_fact_log.specs.Logs.{with_records}
 use Rattle.crsm_law_examples.proofs.Opened.{the_model}
 use Rattle.crsm_log.specs.Format.{bodies_in, bodies_of, found, gate_in, is_cluster, length_of, may_stand, reading, stands}
 use Rattle.crsm_ledger.specs.Recovered.{AreKept}
 use Rattle.crsm_shell.specs.Shell.{HasLog}
 use Rattle.crsm_shell.specs.Flushing.{IsFull}
 use Rattle.crsm_node.specs.Kept.{HasBehind}
-use Rattle.crsm_law_worked.specs.Values.{changing, decision, entry_b, entry_c, first_ballot, first_boot, first_kept, first_log, first_not_kept, lost_entry, other_log, put_b, put_c, second_boot, second_kept, second_log, stamp_at}
-use Rattle.crsm_law_worked.specs.Files.{begun_file, bodies_found, first_boot_body, second_boot_body, change_body, changed_file, file_with, first_file, first_kept_body, second_kept_body, lost_body, lost_file, other_file, second_begun_file, second_file}
+use Rattle.crsm_law_worked.specs.Values.{changing, decision, entry_b, entry_c, first_ballot, first_boot, first_kept, first_log, first_not_kept, kept_log, lost_entry, new_boot, other_log, put_b, put_c, second_boot, second_kept, second_log, stamp_at}
+use Rattle.crsm_law_worked.specs.Files.{begun_file, bodies_found, first_boot_body, second_boot_body, change_body, changed_file, file_with, first_file, first_kept_body, second_kept_body, kept_bodies, lost_body, lost_file, new_boot_body, new_file, other_file, second_begun_file, second_file, third_file}
 
 -- ---- the bodies of each file
 
@@ -42,6 +43,14 @@ reads_changed = refl
 pub reads_second : reading second_file ≡ found (first_boot_body ∷ first_kept_body ∷ second_boot_body ∷ change_body ∷ second_kept_body ∷ [])
 unfolding the_model second_file file_with first_boot_body first_kept_body second_boot_body change_body second_kept_body is_cluster length_of may_stand stands
 reads_second = refl
+
+pub reads_third : reading third_file ≡ found (first_boot_body ∷ first_kept_body ∷ lost_body ∷ second_boot_body ∷ [])
+unfolding the_model third_file file_with first_boot_body first_kept_body lost_body second_boot_body is_cluster length_of may_stand stands
+reads_third = refl
+
+pub reads_new : reading new_file ≡ found (new_boot_body ∷ [])
+unfolding the_model new_file file_with new_boot_body is_cluster length_of may_stand stands
+reads_new = refl
 
 pub reads_other : reading other_file ≡ found (first_boot_body ∷ lost_body ∷ [])
 unfolding the_model other_file file_with first_boot_body lost_body is_cluster length_of may_stand stands
@@ -82,6 +91,14 @@ room_for_lost = room first_file lost_body refl refl
 pub room_for_second_boot : IsFull first_file second_boot_body → ⊥
 unfolding the_model first_file file_with first_boot_body first_kept_body second_boot_body is_cluster length_of may_stand stands
 room_for_second_boot = room first_file second_boot_body refl refl
+
+pub room_for_third_boot : IsFull lost_file second_boot_body → ⊥
+unfolding the_model lost_file file_with first_boot_body first_kept_body lost_body second_boot_body is_cluster length_of may_stand stands
+room_for_third_boot = room lost_file second_boot_body refl refl
+
+pub room_for_new_boot : IsFull [] new_boot_body → ⊥
+unfolding the_model new_boot_body is_cluster length_of may_stand stands
+room_for_new_boot = room [] new_boot_body refl refl
 
 pub room_for_change : IsFull second_begun_file change_body → ⊥
 unfolding the_model second_begun_file file_with first_boot_body first_kept_body second_boot_body change_body is_cluster length_of may_stand stands
@@ -146,6 +163,9 @@ fit_first_not_kept = (fits_lost_entry, (fits_stamp 7 refl, tt))
 fit_second_boot : AllByRecursion FitsRec second_boot
 fit_second_boot = ((omega arith, omega arith), tt)
 
+fit_new_boot : AllByRecursion FitsRec new_boot
+fit_new_boot = ((omega arith, omega arith), tt)
+
 fit_changing : AllByRecursion FitsRec changing
 fit_changing = (omega arith, ((omega arith, fits_ballot), ((omega arith, fits_ballot, fits_decision), (fits_decision, (omega arith, tt)))))
 
@@ -165,6 +185,43 @@ kept_found = (
   (refl, (refl, tt)),
   (first_kept, spelt first_kept (omega arith) fit_first_kept, (refl, (refl, tt)), refl),
 )
+
+pub kept_lost : AreKept 0 1 [] kept_bodies kept_log
+unfolding the_model first_boot_body first_kept_body lost_body
+kept_lost = (
+  first_boot,
+  spelt first_boot (omega arith) fit_first_boot,
+  (refl, (refl, tt)),
+  (
+    first_kept,
+    spelt first_kept (omega arith) fit_first_kept,
+    (refl, (refl, tt)),
+    (first_not_kept, spelt first_not_kept (omega arith) fit_first_not_kept, (refl, (refl, tt)), refl),
+  ),
+)
+
+pub kept_third : AreKept 0 1 [] (first_boot_body ∷ first_kept_body ∷ lost_body ∷ second_boot_body ∷ []) (with_records kept_log second_boot)
+unfolding the_model first_boot_body first_kept_body lost_body second_boot_body
+kept_third = (
+  first_boot,
+  spelt first_boot (omega arith) fit_first_boot,
+  (refl, (refl, tt)),
+  (
+    first_kept,
+    spelt first_kept (omega arith) fit_first_kept,
+    (refl, (refl, tt)),
+    (
+      first_not_kept,
+      spelt first_not_kept (omega arith) fit_first_not_kept,
+      (refl, (refl, tt)),
+      (second_boot, spelt second_boot (omega arith) fit_second_boot, (refl, tt), refl),
+    ),
+  ),
+)
+
+pub kept_new : AreKept 1 1 [] (new_boot_body ∷ []) (with_records [] new_boot)
+unfolding the_model new_boot_body
+kept_new = (new_boot, spelt new_boot (omega arith) fit_new_boot, (refl, tt), refl)
 
 pub kept_second : AreKept 0 1 [] (first_boot_body ∷ first_kept_body ∷ second_boot_body ∷ change_body ∷ second_kept_body ∷ []) second_log
 unfolding the_model first_boot_body first_kept_body second_boot_body change_body second_kept_body
@@ -204,3 +261,9 @@ unfolding HasLog
 has_log file bodies log is kept =
     let same = has_bodies file bodies is in
     record { whole = is ∙ ap found (sym same); kept = subst (λ (bs : List (List ℕ)). AreKept 0 1 [] bs log) (sym same) kept }
+
+pub has_new_log : HasLog 1 1 new_file (with_records [] new_boot)
+unfolding HasLog
+has_new_log =
+    let same = has_bodies new_file (new_boot_body ∷ []) reads_new in
+    record { whole = reads_new ∙ ap found (sym same); kept = subst (λ (bs : List (List ℕ)). AreKept 1 1 [] bs (with_records [] new_boot)) (sym same) kept_new }

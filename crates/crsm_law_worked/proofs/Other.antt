@@ -158,8 +158,8 @@ left_in_life t c (inr (lt, inl is)) = inl (inl (inl is))
 left_in_life t c (inr (lt, inr (inl is))) = inr (prefix_is_left (first_boot_body ∷ []) (lost_body ∷ []) begun_file c refl reads_begun is)
 left_in_life t c (inr (lt, inr (inr never))) = absurd never
 
-pub keeps : (peers : Vec ℕ Global) (one : length peers.items ≡ 1) → KeepsLife (order_of 1 peers one) other_life (at Moment.OtherBegins).disk (at Moment.OtherEnds).disk went_well
-keeps peers one = record {
+pub keeps : (peers : Vec ℕ Global) (two : length peers.items ≡ 2) → KeepsLife (order_of 1 peers two) other_life (at Moment.OtherBegins).disk (at Moment.OtherEnds).disk went_well
+keeps peers two = record {
   claimed_file = [];
   file = other_file;
   claims = refl;
@@ -178,9 +178,9 @@ keeps peers one = record {
 
 -- ---- the run
 
-unfoldable pub other_run : (peers : Vec ℕ Global) (one : length peers.items ≡ 1) → RunsLife (order_of 1 peers one) (at Moment.OtherBegins) (at Moment.OtherEnds) ends.Done
+unfoldable pub other_run : (peers : Vec ℕ Global) (two : length peers.items ≡ 2) → RunsLife (order_of 1 peers two) (at Moment.OtherBegins) (at Moment.OtherEnds) ends.Done
 unfolding kept_turns
-other_run peers one = record {
+other_run peers two = record {
   life = other_life;
   bodies = [];
   result = went_well;
@@ -196,7 +196,7 @@ other_run peers one = record {
   takes = can_be_taken;
   carries = carries peers.items;
   goes = record { honest = refl; fill = refl; borrowed_as = refl; later = omega arith };
-  keeps = λ _. keeps peers one;
+  keeps = λ _. keeps peers two;
   writes = refl;
   done = (refl, refl);
 }

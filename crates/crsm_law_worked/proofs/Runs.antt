@@ -19,9 +19,9 @@ none_else : (k : ℕ) → lives_of (suc k) lives ≡ []
 unfolding lives_of
 none_else k = rw (ne_eqb 0 (suc k) (λ same. omega (arith, same))) refl
 
-module _ (peers : Vec ℕ Global) (one : length peers.items ≡ 1) where
+module _ (peers : Vec ℕ Global) (two : length peers.items ≡ 2) where
   -- the first run finds an empty file
-  no_body : (file : List ℕ) → Among ([] ∷ []) file → HasNoBody file
+  pub no_body : (file : List ℕ) → Among ([] ∷ []) file → HasNoBody file
   no_body file (inl is) = subst HasNoBody is refl
   no_body file (inr never) = absurd never
 
@@ -30,30 +30,30 @@ module _ (peers : Vec ℕ Global) (one : length peers.items ≡ 1) where
   found_left file (inl is) = inl is
   found_left file (inr never) = absurd never
 
-  are_runs : (k : ℕ) → k < 15 → AreRunsOf at 1 k (runs_over peers one k)
+  are_runs : (k : ℕ) → k < 15 → AreRunsOf at 1 k (runs_over peers two k)
   are_runs zero lt = (
-    record { me = refl; count = refl; honest = refl; ran = (λ _. inr (first_run peers one), λ numbered. absurd (numbered refl)) },
+    record { me = refl; count = refl; honest = refl; ran = (λ _. inr (first_run peers two), λ numbered. absurd (numbered refl)) },
     no_body,
     (
-      record { me = refl; count = refl; honest = refl; ran = (λ _. inr (second_run peers one), λ numbered. absurd (numbered refl)) },
+      record { me = refl; count = refl; honest = refl; ran = (λ _. inr (second_run peers two), λ numbered. absurd (numbered refl)) },
       found_left,
       tt,
     ),
   )
   are_runs (suc k) lt = tt
 
-  were_lives : (k : ℕ) → k < 15 → Were at (runs_over peers one k) (lives_of k lives)
+  were_lives : (k : ℕ) → k < 15 → Were at (runs_over peers two k) (lives_of k lives)
   unfolding lives_of first_run second_run
   were_lives zero lt = (
     first_life ∷ [],
     second_life ∷ [],
     refl,
-    (λ _. inr (first_run peers one, inl refl), λ numbered. absurd (numbered refl)),
-    (second_life ∷ [], [], refl, (λ _. inr (second_run peers one, inl refl), λ numbered. absurd (numbered refl)), refl),
+    (λ _. inr (first_run peers two, inl refl), λ numbered. absurd (numbered refl)),
+    (second_life ∷ [], [], refl, (λ _. inr (second_run peers two, inl refl), λ numbered. absurd (numbered refl)), refl),
   )
   were_lives (suc k) lt = none_else k
 
-  pub worked_runs : ProcessesAreHistories → StepsOfProcessesAreRight → WorkedRuns peers one
+  pub worked_runs : ProcessesAreHistories → StepsOfProcessesAreRight → WorkedRuns peers two
   worked_runs histories steps = record {
     are = are_runs;
     were = were_lives;

@@ -209,8 +209,8 @@ left_in_life t c (inr (lt, inr (inr (inl is)))) =
     inr (prefix_is_left (second_boot_body ∷ change_body ∷ []) (second_kept_body ∷ []) changed_file c refl (has_behind changed_file (second_boot_body ∷ change_body ∷ []) reads_changed) is)
 left_in_life t c (inr (lt, inr (inr (inr never)))) = absurd never
 
-pub keeps : (peers : Vec ℕ Global) (one : length peers.items ≡ 1) → KeepsLife (order_of 4 peers one) second_life (at Moment.SecondBegins).disk (at Moment.SecondEnds).disk went_well
-keeps peers one = record {
+pub keeps : (peers : Vec ℕ Global) (two : length peers.items ≡ 2) → KeepsLife (order_of 4 peers two) second_life (at Moment.SecondBegins).disk (at Moment.SecondEnds).disk went_well
+keeps peers two = record {
   claimed_file = first_file;
   file = second_file;
   claims = refl;
@@ -234,9 +234,9 @@ names_none = tt
 
 -- ---- the run
 
-unfoldable pub second_run : (peers : Vec ℕ Global) (one : length peers.items ≡ 1) → RunsLife (order_of 4 peers one) (at Moment.SecondBegins) (at Moment.SecondEnds) ends.Done
+unfoldable pub second_run : (peers : Vec ℕ Global) (two : length peers.items ≡ 2) → RunsLife (order_of 4 peers two) (at Moment.SecondBegins) (at Moment.SecondEnds) ends.Done
 unfolding kept_turns
-second_run peers one = record {
+second_run peers two = record {
   life = second_life;
   bodies = bodies_found;
   result = went_well;
@@ -252,7 +252,7 @@ second_run peers one = record {
   takes = can_be_taken;
   carries = carries peers.items;
   goes = record { honest = refl; fill = refl; borrowed_as = refl; later = omega arith };
-  keeps = λ _. keeps peers one;
+  keeps = λ _. keeps peers two;
   writes = refl;
   done = (refl, refl);
 }

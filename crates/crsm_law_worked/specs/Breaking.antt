@@ -17,8 +17,8 @@ use Rattle.crsm_law_worked.specs.Worked.{first_of}
 use Rattle.crsm_node.specs.declared.errors.NodeEnd.TheVariants as ends
 
 -- the run that answers client 8 in place of client 7
-abbrev pub other_of : (peers : Vec ℕ Global) → length peers.items ≡ 1 → Run Moment
-other_of peers one = record { order = order_of 1 peers one; before = Moment.OtherBegins; after = Moment.OtherEnds; end = ends.Done }
+abbrev pub other_of : (peers : Vec ℕ Global) → length peers.items ≡ 2 → Run Moment
+other_of peers two = record { order = order_of 1 peers two; before = Moment.OtherBegins; after = Moment.OtherEnds; end = ends.Done }
 
 -- Of two processes of one replica, steps that both kept have executed different entries at the first place.
 pub record Disagree (n : ℕ) (l m : Life) : Type 0 where
@@ -34,12 +34,12 @@ pub record Disagree (n : ℕ) (l m : Life) : Type 0 where
 
 -- Two runs of a node over honest disks, of which the second finds an empty file, which the first cannot leave: the
 -- processes that they were disagree.
-pub record LostFilesBreak (peers : Vec ℕ Global) (one : length peers.items ≡ 1) : Type 0 where
-  pub first : IsRunOf at 1 0 (first_of peers one)
-  pub second : IsRunOf at 1 0 (other_of peers one)
+pub record LostFilesBreak (peers : Vec ℕ Global) (two : length peers.items ≡ 2) : Type 0 where
+  pub first : IsRunOf at 1 0 (first_of peers two)
+  pub second : IsRunOf at 1 0 (other_of peers two)
   pub finds : (at Moment.OtherBegins).disk.may_leave []
   pub not_left : (at Moment.FirstEnds).disk.may_leave [] → ⊥
-  pub were : Were at (first_of peers one ∷ other_of peers one ∷ []) (first_life ∷ other_life ∷ [])
+  pub were : Were at (first_of peers two ∷ other_of peers two ∷ []) (first_life ∷ other_life ∷ [])
   pub disagree : Disagree 1 first_life other_life
 
 -- ---- a disk that forgets
@@ -70,13 +70,13 @@ forgetting m = record (at m) { disk = forgetful (at m).disk.faults }
 
 -- Two runs of a node over a disk that is not honest. All else is as the law of runs asks, and the processes that they
 -- were disagree.
-pub record ForgetfulDisksBreak (peers : Vec ℕ Global) (one : length peers.items ≡ 1) : Type 0 where
-  pub first : RunsOverCluster (order_of 3 peers one) (forgetting Moment.FirstBegins) (forgetting Moment.FirstEnds) ends.DiskFault
-  pub second : RunsOverCluster (order_of 1 peers one) (forgetting Moment.OtherBegins) (forgetting Moment.OtherEnds) ends.Done
+pub record ForgetfulDisksBreak (peers : Vec ℕ Global) (two : length peers.items ≡ 2) : Type 0 where
+  pub first : RunsOverCluster (order_of 3 peers two) (forgetting Moment.FirstBegins) (forgetting Moment.FirstEnds) ends.DiskFault
+  pub second : RunsOverCluster (order_of 1 peers two) (forgetting Moment.OtherBegins) (forgetting Moment.OtherEnds) ends.Done
   pub no_body : (file : List ℕ) → (forgetting Moment.FirstBegins).disk.may_leave file → HasNoBody file
   pub left : (file : List ℕ) → (forgetting Moment.OtherBegins).disk.may_leave file → (forgetting Moment.FirstEnds).disk.may_leave file
   pub dishonest : (m : Moment) → (forgetting m).disk.honest ≡ false
-  pub were : Were forgetting (first_of peers one ∷ other_of peers one ∷ []) (first_life ∷ other_life ∷ [])
+  pub were : Were forgetting (first_of peers two ∷ other_of peers two ∷ []) (first_life ∷ other_life ∷ [])
   pub disagree : Disagree 1 first_life other_life
 
 -- A cluster in which a node runs began with at most 15 replicas: this premise excludes no run.

@@ -1,4 +1,4 @@
--- Devices before and after each of two runs of a node.
+-- Devices before and after runs of nodes.
 use Rattle.std.specs.Prelude.{List, None, Option, Some, [], true, ℕ, ◌<◌, ◌∷◌, ◌≡◌, ◌⊎◌}
 use Rattle.std.proofs.Common.{arith, inl, inr, refl}
 use Rattle.crsm_spec.specs.Lists.{Among}
@@ -11,7 +11,7 @@ use Rattle.crsm_spec_process.specs.Lives.{kept_turns}
 use Rattle.crsm_node.specs.Running.{Devices}
 use Rattle.crsm_text_sheet.specs.Sheets.{sheet_of, sheet_text}
 use Rattle.crsm_law_worked.specs.Values.{answered, answered_too, asked, asked_too, first_life, other_life, second_life}
-use Rattle.crsm_law_worked.specs.Files.{begun_file, bodies_found, changed_file, first_file, lost_file, other_file, second_begun_file, second_file}
+use Rattle.crsm_law_worked.specs.Files.{begun_file, bodies_found, changed_file, first_file, kept_bodies, lost_file, new_file, other_file, second_begun_file, second_file, third_file}
 
 -- ---- each device
 
@@ -69,13 +69,17 @@ packet address bytes = record { address = address; bytes = bytes }
 
 -- ---- all devices of each run
 
--- before and after the first run, before and after the second, and before and after one that does not find the file of
--- the first
+-- before and after the first run, and before and after the second; before and after one that finds what the first had
+-- not synced, and that of another replica; and before and after one that does not find the file of the first
 pub data Moment : Type 0 where
   FirstBegins : Moment
   FirstEnds : Moment
   SecondBegins : Moment
   SecondEnds : Moment
+  ThirdBegins : Moment
+  ThirdEnds : Moment
+  NewBegins : Moment
+  NewEnds : Moment
   OtherBegins : Moment
   OtherEnds : Moment
 
@@ -108,6 +112,34 @@ at Moment.SecondEnds = record {
   port = port_with [] (packet 78 asked_too ∷ []) (packet 78 answered_too ∷ []) 2;
   clock = clock_with 6000002 [];
   sheet = Some (sheet_text (sheet_of bodies_found (kept_turns second_life.groups)));
+  faults = 0;
+}
+at Moment.ThirdBegins = record {
+  disk = disk_with lost_file (lost_file ∷ []) [] (inl refl) 0 0;
+  port = port_with [] [] [] 0;
+  clock = clock_with 0 [];
+  sheet = Some [];
+  faults = 0;
+}
+at Moment.ThirdEnds = record {
+  disk = disk_with third_file (third_file ∷ []) (lost_file ∷ []) (inl refl) 1 0;
+  port = port_with [] [] [] 0;
+  clock = clock_with 0 [];
+  sheet = Some (sheet_text (sheet_of kept_bodies []));
+  faults = 0;
+}
+at Moment.NewBegins = record {
+  disk = disk_with [] ([] ∷ []) [] (inl refl) 0 0;
+  port = port_with [] [] [] 0;
+  clock = clock_with 0 [];
+  sheet = Some [];
+  faults = 0;
+}
+at Moment.NewEnds = record {
+  disk = disk_with new_file (new_file ∷ []) ([] ∷ []) (inl refl) 1 0;
+  port = port_with [] [] [] 0;
+  clock = clock_with 0 [];
+  sheet = Some (sheet_text (sheet_of [] []));
   faults = 0;
 }
 at Moment.OtherBegins = record {

@@ -2,7 +2,7 @@
 use Rattle.std.specs.Prelude.{List, [], length, ℕ, ◌++◌, ◌∷◌}
 use Rattle.crsm_base.specs.Records.{body_bytes}
 use Rattle.crsm_log.specs.Format.{four_bytes}
-use Rattle.crsm_law_worked.specs.Values.{changing, first_boot, first_kept, first_not_kept, second_boot, second_kept}
+use Rattle.crsm_law_worked.specs.Values.{changing, first_boot, first_kept, first_not_kept, new_boot, second_boot, second_kept}
 
 -- the file of a log with these bodies, each behind an open gate, and a closed gate behind them
 unfoldable pub file_with : List (List ℕ) → List ℕ
@@ -28,9 +28,16 @@ change_body = body_bytes changing
 unfoldable pub second_kept_body : List ℕ
 second_kept_body = body_bytes second_kept
 
+unfoldable pub new_boot_body : List ℕ
+new_boot_body = body_bytes new_boot
+
 -- the bodies that the second run finds
 abbrev pub bodies_found : List (List ℕ)
 bodies_found = first_boot_body ∷ first_kept_body ∷ []
+
+-- those that the first run leaves where its last group is on the disk though the sync of it failed
+abbrev pub kept_bodies : List (List ℕ)
+kept_bodies = first_boot_body ∷ first_kept_body ∷ lost_body ∷ []
 
 -- the file once the first run has booted, once it has kept its first group, and with the group that it lost
 unfoldable pub begun_file : List ℕ
@@ -51,6 +58,14 @@ changed_file = file_with (first_boot_body ∷ first_kept_body ∷ second_boot_bo
 
 unfoldable pub second_file : List ℕ
 second_file = file_with (first_boot_body ∷ first_kept_body ∷ second_boot_body ∷ change_body ∷ second_kept_body ∷ [])
+
+-- the file with the group whose sync failed, once a run has booted on it
+unfoldable pub third_file : List ℕ
+third_file = file_with (first_boot_body ∷ first_kept_body ∷ lost_body ∷ second_boot_body ∷ [])
+
+-- the file of replica 1, once it has booted
+unfoldable pub new_file : List ℕ
+new_file = file_with (new_boot_body ∷ [])
 
 -- the file of a run that boots anew and takes what the first run lost
 unfoldable pub other_file : List ℕ

@@ -4,3 +4,4 @@ pub mod Orders
 pub mod Devices
 pub mod Worked
 pub mod Breaking
+pub mod Kept

@@ -102,6 +102,31 @@ second_life = record {
   ended = true;
 }
 
+-- the first process, where its last group is on the disk though the sync of it failed: it kept the group
+abbrev pub kept_life : Life
+kept_life = record {
+  me = 0;
+  found = [];
+  groups = record { turns = (Turn.In 77 asked, 5) ∷ (Turn.Tick, 6) ∷ []; fates = true ∷ [] } ∷ record { turns = (Turn.In 78 asked_too, 7) ∷ []; fates = [] } ∷ [];
+  lost = [];
+  ended = true;
+}
+
+-- the log that it leaves then
+abbrev pub kept_log : Log
+kept_log = with_records first_log first_not_kept
+
+-- it boots on that log, and ends
+abbrev pub third_life : Life
+third_life = record { me = 0; found = kept_log; groups = []; lost = []; ended = true }
+
+-- replica 1, which the cluster did not begin with, boots for the first time, and ends
+abbrev pub new_life : Life
+new_life = record { me = 1; found = []; groups = []; lost = []; ended = true }
+
+abbrev pub new_boot : List Rec
+new_boot = Rec.Boot 1 1 ∷ []
+
 -- It boots where the file of the first process is missing, and answers client 8 at once.
 abbrev pub other_life : Life
 other_life = record { me = 0; found = []; groups = record { turns = (Turn.In 78 asked_too, 7) ∷ []; fates = true ∷ [] } ∷ []; lost = []; ended = true }

@@ -18,17 +18,17 @@ use Rattle.crsm_law_worked.specs.Devices.{Moment, at}
 use Rattle.crsm_node.specs.declared.errors.NodeEnd.TheVariants as ends
 
 -- The run that answers client 7: at its end the disk does nothing any more, as that of a node that is killed.
-abbrev pub first_of : (peers : Vec ℕ Global) → length peers.items ≡ 1 → Run Moment
-first_of peers one = record { order = order_of 3 peers one; before = Moment.FirstBegins; after = Moment.FirstEnds; end = ends.DiskFault }
+abbrev pub first_of : (peers : Vec ℕ Global) → length peers.items ≡ 2 → Run Moment
+first_of peers two = record { order = order_of 3 peers two; before = Moment.FirstBegins; after = Moment.FirstEnds; end = ends.DiskFault }
 
 -- the run over the file that this one left
-abbrev pub second_of : (peers : Vec ℕ Global) → length peers.items ≡ 1 → Run Moment
-second_of peers one = record { order = order_of 4 peers one; before = Moment.SecondBegins; after = Moment.SecondEnds; end = ends.Done }
+abbrev pub second_of : (peers : Vec ℕ Global) → length peers.items ≡ 2 → Run Moment
+second_of peers two = record { order = order_of 4 peers two; before = Moment.SecondBegins; after = Moment.SecondEnds; end = ends.Done }
 
 -- The runs of each node: replica 0's node runs twice over one file, and no other node runs.
-abbrev pub runs_over : (peers : Vec ℕ Global) → length peers.items ≡ 1 → ℕ → List (Run Moment)
-runs_over peers one zero = first_of peers one ∷ second_of peers one ∷ []
-runs_over peers one (suc k) = []
+abbrev pub runs_over : (peers : Vec ℕ Global) → length peers.items ≡ 2 → ℕ → List (Run Moment)
+runs_over peers two zero = first_of peers two ∷ second_of peers two ∷ []
+runs_over peers two (suc k) = []
 
 -- the processes that they were
 abbrev pub lives : List Life
@@ -48,9 +48,9 @@ the_answer = record { address = 77; client = 7; number = 1; says = Outcome.Answe
 -- The runs are runs of each node of a cluster that began with one replica, as the law of runs asks; they were these
 -- processes, nobody forges in what happened, so that it is a lawful history, and in it client 7 is answered. The entry
 -- keeps its place, and that of client 8 stands behind it, in the next epoch.
-pub record WorkedRuns (peers : Vec ℕ Global) (one : length peers.items ≡ 1) : Type 0 where
-  pub are : (k : ℕ) → k < 15 → AreRunsOf at 1 k (runs_over peers one k)
-  pub were : (k : ℕ) → k < 15 → Were at (runs_over peers one k) (lives_of k lives)
+pub record WorkedRuns (peers : Vec ℕ Global) (two : length peers.items ≡ 2) : Type 0 where
+  pub are : (k : ℕ) → k < 15 → AreRunsOf at 1 k (runs_over peers two k)
+  pub were : (k : ℕ) → k < 15 → Were at (runs_over peers two k) (lives_of k lives)
   pub right : IsRightHistory 1 lives happened
   pub replied : IsReplied 1 happened 4 0 the_answer
   pub list : one_list 1 happened ≡ entry_b ∷ entry_c ∷ []

@@ -4,6 +4,7 @@
 
 ghost use Rattle.std.specs.Prelude.{◌≡◌, length};
 ghost use Rattle.crsm_law_worked.specs.Breaking.{ClustersAreSmall, ForgetfulDisksBreak, LostFilesBreak};
+ghost use Rattle.crsm_law_worked.specs.Kept.{LostGroupsMayStay};
 ghost use Rattle.crsm_law_worked.specs.Worked.{WorkedRuns};
 
 use crsm_law_processes::{processes_are_histories, steps_of_processes_are_right};
@@ -11,10 +12,21 @@ use crsm_law_processes::{processes_are_histories, steps_of_processes_are_right};
 /// Shows a node that runs twice over one log file, so that the premises of the law of runs can be met. Its first run
 /// answers a client, takes one more request and is killed before this is synced; its second run boots on the file,
 /// begins the next epoch and answers the second client, which asks again. The processes that the runs were make a
-/// lawful history in which the first answer is sent. The node's only address is any one.
+/// lawful history in which the first answer is sent. The addresses of replicas 0 and 1 are any two.
 pub fn runs_happen(peers: &Vec<u64>)
-    requires one { length peers.now.items ≡ 1 }
-    ensures { (one : length peers.now.items ≡ 1) → WorkedRuns peers.now one }
+    requires two { length peers.now.items ≡ 2 }
+    ensures { (two : length peers.now.items ≡ 2) → WorkedRuns peers.now two }
+{
+    processes_are_histories();
+    steps_of_processes_are_right();
+}
+
+/// Shows runs over a file that has what the first of them could not sync before its disk failed, and the run of a
+/// replica that the cluster did not begin with. They meet the premises of the law of runs: the first run was a process
+/// that kept its last group, and the entry in it keeps its place, though nothing was sent of it.
+pub fn lost_groups_may_stay(peers: &Vec<u64>)
+    requires two { length peers.now.items ≡ 2 }
+    ensures { (two : length peers.now.items ≡ 2) → LostGroupsMayStay peers.now two }
 {
     processes_are_histories();
     steps_of_processes_are_right();
@@ -23,14 +35,14 @@ pub fn runs_happen(peers: &Vec<u64>)
 /// Shows two runs of which the second finds a file that the first cannot leave: they execute different entries at
 /// one place.
 pub fn lost_files_break(peers: &Vec<u64>)
-    requires one { length peers.now.items ≡ 1 }
-    ensures { (one : length peers.now.items ≡ 1) → LostFilesBreak peers.now one }
+    requires two { length peers.now.items ≡ 2 }
+    ensures { (two : length peers.now.items ≡ 2) → LostFilesBreak peers.now two }
 {}
 
 /// Shows two runs over a disk that forgets what was synced: they execute different entries at one place.
 pub fn forgetful_disks_break(peers: &Vec<u64>)
-    requires one { length peers.now.items ≡ 1 }
-    ensures { (one : length peers.now.items ≡ 1) → ForgetfulDisksBreak peers.now one }
+    requires two { length peers.now.items ≡ 2 }
+    ensures { (two : length peers.now.items ≡ 2) → ForgetfulDisksBreak peers.now two }
 {}
 
 /// States that each cluster in which a node runs began with at most 15 replicas.
