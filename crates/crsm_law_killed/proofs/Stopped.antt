@@ -1,12 +1,12 @@
 -- Disks with counters of their own: calls that are handed on, and calls that are not.
-use Rattle.std.proofs.Common.{◌≡◌, ℕ, ◌+◌, ◌≤◌, max, min, List, length, take, drop, refl, sym, ap, inl, arith}
-use Rattle.std.specs.Prelude.{Option, None, Result, Ok, Err, OnErr, OnOk, IfSome, IsTrue}
+use Rattle.std.proofs.Common.{ℕ, ◌≤◌, List, length, refl, inl, arith}
+use Rattle.std.proofs.lemmas.List.{take_all, take_min}
+use Rattle.std.specs.Prelude.{Option, None, Result, OnErr}
 use Rattle.crsm_base.specs.declared.memory.Failed.{Failed}
-use Rattle.crsm_base.specs.declared.memory.NoMemory.{NoMemory}
 use Rattle.crsm_port_faults.specs.Counts.{Rose}
-use Rattle.crsm_port_faults.specs.Plan.{MakesRoom, Spends}
+use Rattle.crsm_port_faults.specs.Plan.{Spends}
 use Rattle.crsm_port_image.specs.Bytes.{Shortened, Torn}
-use Rattle.crsm_disk.specs.Contract.{Answers, Goes, Renews, Reserves}
+use Rattle.crsm_disk.specs.Contract.{Answers, Goes}
 use Rattle.crsm_disk.specs.Meaning.{Elapses, Meaning, Same}
 use Rattle.crsm_law_killed.specs.Stopping.{disk_with}
 
@@ -49,9 +49,9 @@ stopped_answers calls bytes m f g r result later failed =
     record { honest = refl; fill = refl; borrowed_as = refl; later = later; failed = failed; plan = no_plan calls bytes result }
 
 pub torn_stays : (at n : ℕ) (c : List ℕ) → Torn at n c c
-torn_stays at n c = record { before = grind (arith); after = refl; no_shorter = omega arith; no_longer = omega arith }
+torn_stays at n c = record { before = take_min at c; after = refl; no_shorter = omega arith; no_longer = omega arith }
 
 pub shortened_stays : (n : ℕ) (c : List ℕ) → Shortened n c c
-shortened_stays n c = record { no_shorter = omega arith; prefix = grind (arith) }
+shortened_stays n c = record { no_shorter = omega arith; prefix = take_all (length c) c (omega arith) }
 
 pub ruleset stopped_rules = (same_below, goes_below, answers_below, stopped_same, stopped_goes, stopped_answers, torn_stays, shortened_stays)

@@ -1,15 +1,11 @@
 //! `StoppingDisk`: a disk that does nothing from some call on.
 
-ghost use Rattle.std.specs.Prelude.{◌≡◌, ◌+◌, ◌-◌, ◌≤◌, length, take, IsTrue, IfOk, OnOk, is_ok, Some, None, if◌then◌else◌, slice_index};
-ghost use Rattle.crsm_port_image.specs.Bytes.{overwritten, Torn, Shortened, ReadsAt};
-ghost use Rattle.crsm_port_image.specs.Calls.{wrote, cut, synced, noted};
-ghost use Rattle.crsm_disk.specs.Contract.{Answers, Arms, Goes, Renews, Reserves};
-ghost use Rattle.crsm_disk.specs.Meaning.{Meaning, Only, Same};
+ghost use Rattle.std.specs.Prelude.{◌≡◌};
 ghost use Rattle.crsm_law_killed.specs.Stopping.{disk_with};
 
+use crate::calls::{counted, hand_on};
 use crsm_base::{Failed, NoMemory};
 use crsm_disk::Disk;
-use crsm_port_faults::raise;
 
 /// A disk over another one, which hands on a number of calls and fails at all further ones, without calling the other.
 #[derive(Drop)]
@@ -41,39 +37,6 @@ impl<D: Drop> StoppingDisk<D> {
     {
         self.inner
     }
-
-    /// Counts a call, and returns whether it is handed on; if not, a fault is counted.
-    fn hands_on(&mut self) -> Result<(), Failed>
-        ensures inner { self.new.inner ≡ self.old.inner }
-        ensures renewed { self.new.renewed ≡ self.old.renewed }
-        ensures ok { OnOk result (self.new.faults ≡ self.old.faults) }
-        ensures later { self.old.faults ≤ self.new.faults }
-        ensures failed { OnErr result (Rose self.old.faults self.new.faults) }
-    {
-        if self.left == 0 {
-            raise(&mut self.faults);
-            return Err(Failed);
-        }
-        self.left -= 1;
-        Ok(())
-    }
-
-    /// Counts a fault where the disk below failed.
-    fn counted<T: Drop>(&mut self, answer: Result<T, Failed>) -> Result<T, Failed>
-        ensures same { result ≡ answer }
-        ensures inner { self.new.inner ≡ self.old.inner }
-        ensures renewed { self.new.renewed ≡ self.old.renewed }
-        ensures later { self.old.faults ≤ self.new.faults }
-        ensures failed { OnErr result (Rose self.old.faults self.new.faults) }
-    {
-        match answer {
-            Ok(value) => Ok(value),
-            Err(failed) => {
-                raise(&mut self.faults);
-                Err(failed)
-            }
-        }
-    }
 }
 
 #[tactic(auto, using(crate::proofs::Stopped::stopped_rules))]
@@ -81,40 +44,40 @@ impl<D: Disk> Disk for StoppingDisk<D> {
     ghost meaning = { λ d. disk_with d.faults d.renewed (D.meaning d.inner) };
 
     fn len(&mut self) -> Result<u64, Failed> {
-        self.hands_on()?;
+        hand_on(&mut self.left, &mut self.faults)?;
         let answer = self.inner.len();
-        self.counted(answer)
+        counted(&mut self.faults, answer)
     }
 
     fn read_at(&mut self, at: u64, buf: &mut [u8]) -> Result<usize, Failed> {
-        self.hands_on()?;
+        hand_on(&mut self.left, &mut self.faults)?;
         let answer = self.inner.read_at(at, buf);
-        self.counted(answer)
+        counted(&mut self.faults, answer)
     }
 
     fn write_at(&mut self, at: u64, bytes: &[u8]) -> Result<(), Failed> {
-        self.hands_on()?;
+        hand_on(&mut self.left, &mut self.faults)?;
         let answer = self.inner.write_at(at, bytes);
-        self.counted(answer)
+        counted(&mut self.faults, answer)
     }
 
     fn cut(&mut self, len: u64) -> Result<(), Failed> {
-        self.hands_on()?;
+        hand_on(&mut self.left, &mut self.faults)?;
         let answer = self.inner.cut(len);
-        self.counted(answer)
+        counted(&mut self.faults, answer)
     }
 
     fn sync(&mut self) -> Result<(), Failed> {
-        self.hands_on()?;
+        hand_on(&mut self.left, &mut self.faults)?;
         let answer = self.inner.sync();
-        self.counted(answer)
+        counted(&mut self.faults, answer)
     }
 
     fn renew(&mut self, at: u64, byte: u8) -> Result<(), Failed> {
         if self.left > 0 {
             self.left -= 1;
             let answer = self.inner.renew(at, byte);
-            self.counted(answer)?;
+            counted(&mut self.faults, answer)?;
         }
         self.renewed = Some(at);
         Ok(())

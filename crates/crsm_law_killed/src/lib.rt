@@ -2,6 +2,7 @@
 //! these devices are left with is what the killed process left.
 #![tactic(auto)]
 
+mod calls;
 mod disk;
 mod port;
 mod run;

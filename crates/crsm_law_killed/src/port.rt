@@ -1,12 +1,11 @@
 //! `StoppingPort`: a port that does nothing from some call on.
 
-ghost use Rattle.std.specs.Prelude.{◌≡◌, ◌≤◌, OnOk, OnErr};
-ghost use Rattle.crsm_port_faults.specs.Counts.{Rose};
+ghost use Rattle.std.specs.Prelude.{◌≡◌};
 ghost use Rattle.crsm_law_killed.specs.Stopping.{port_with};
 
+use crate::calls::{counted, hand_on};
 use crsm_base::{Failed, NoMemory};
 use crsm_port::{Port, Recv};
-use crsm_port_faults::raise;
 
 /// A port over another one, which hands on a number of calls and fails at all further ones, without calling the other.
 #[derive(Drop)]
@@ -37,19 +36,6 @@ impl<P: Drop> StoppingPort<P> {
     {
         self.inner
     }
-
-    /// Counts a call, and returns whether it is handed on.
-    fn hands_on(&mut self) -> bool
-        ensures inner { self.new.inner ≡ self.old.inner }
-        ensures faults { self.new.faults ≡ self.old.faults }
-        ensures losses { self.new.losses ≡ self.old.losses }
-    {
-        if self.left == 0 {
-            return false;
-        }
-        self.left -= 1;
-        true
-    }
 }
 
 impl<P: Port> Port for StoppingPort<P> {
@@ -60,23 +46,15 @@ impl<P: Port> Port for StoppingPort<P> {
     ghost may_send = { λ p. P.may_send p.inner };
 
     fn recv(&mut self, buf: &mut [u8]) -> Result<Recv, Failed> {
-        if self.hands_on() {
-            if let Ok(received) = self.inner.recv(buf) {
-                return Ok(received);
-            }
-        }
-        raise(&mut self.faults);
-        Err(Failed)
+        hand_on(&mut self.left, &mut self.faults)?;
+        let answer = self.inner.recv(buf);
+        counted(&mut self.faults, answer)
     }
 
     fn send(&mut self, to: u64, bytes: &[u8]) -> Result<(), Failed> {
-        if self.hands_on() {
-            if let Ok(()) = self.inner.send(to, bytes) {
-                return Ok(());
-            }
-        }
-        raise(&mut self.losses);
-        Err(Failed)
+        hand_on(&mut self.left, &mut self.losses)?;
+        let answer = self.inner.send(to, bytes);
+        counted(&mut self.losses, answer)
     }
 
     fn reserve(&mut self, sends: u64, bytes: u64) -> Result<(), NoMemory> {
@@ -84,19 +62,22 @@ impl<P: Port> Port for StoppingPort<P> {
     }
 
     fn poll_soon(&mut self) {
-        if self.hands_on() {
+        if self.left > 0 {
+            self.left -= 1;
             self.inner.poll_soon();
         }
     }
 
     fn wait_long(&mut self) {
-        if self.hands_on() {
+        if self.left > 0 {
+            self.left -= 1;
             self.inner.wait_long();
         }
     }
 
     fn flush(&mut self) {
-        if self.hands_on() {
+        if self.left > 0 {
+            self.left -= 1;
             self.inner.flush();
         }
     }

@@ -34,7 +34,7 @@ pub struct Left<P, D, C, O> {
 /// Runs a node that is killed once it has made these calls: from there on its devices do nothing. A process that is
 /// killed makes the calls that this run hands on, in their order, since it runs the same code and is answered the same,
 /// and no others. What they do to the devices is what the contract of every run says.
-pub fn run_until_killed<P: Port, D: Disk, C: Clock + Drop, O: Sink>(
+pub fn run_until_killed<P: Port + Drop, D: Disk + Drop, C: Clock + Drop, O: Sink + Drop>(
     alloc: Global,
     order: &NodeOrder,
     calls: Calls,

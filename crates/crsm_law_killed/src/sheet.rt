@@ -1,8 +1,8 @@
 //! `StoppingSink`: a sink that does nothing from some call on.
 
+use crate::calls::{counted, hand_on};
 use crsm_base::Failed;
 use crsm_io::Sink;
-use crsm_port_faults::raise;
 
 /// A sink over another one, which hands on a number of calls and fails at all further ones, without calling the other.
 #[derive(Drop)]
@@ -39,13 +39,8 @@ impl<O: Sink> Sink for StoppingSink<O> {
     ghost faults = { λ s. s.faults };
 
     fn write(&mut self, piece: &[u8]) -> Result<usize, Failed> {
-        if self.left > 0 {
-            self.left -= 1;
-            if let Ok(count) = self.inner.write(piece) {
-                return Ok(count);
-            }
-        }
-        raise(&mut self.faults);
-        Err(Failed)
+        hand_on(&mut self.left, &mut self.faults)?;
+        let answer = self.inner.write(piece);
+        counted(&mut self.faults, answer)
     }
 }
