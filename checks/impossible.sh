@@ -45,6 +45,6 @@ exit "$fail"
 # crsm_replica 3
 # crsm_replica_output 2
 # crsm_sim_machine 4
-# crsm_sim_network 2
+# crsm_sim_network 1
 # crsm_suspend 1
 # crsm_world 1

@@ -8,7 +8,7 @@ ghost use Rattle.crsm_sim_network.specs.Packets.{NetworkStands, IsPacket, IsPack
 use crate::Tally;
 use crate::packets::{PacketEntry, PacketView};
 use crate::receivers::class_of;
-use crsm_base::{Bytes, MAX_WORLD_BYTES, NoMemory, never};
+use crsm_base::{Bytes, MAX_WORLD_BYTES, NoMemory};
 use std::alloc::Global;
 
 /// All datagrams sent, by number, and the world's size in bytes.
@@ -152,8 +152,7 @@ impl Network {
     pub fn keep(&mut self, size: u64) -> Result<(), NoMemory>
         ensures { OnOk result (WhereStands self.old (λ packets bytes. NetworkStands self.new packets (bytes + size))) }
     {
-        // All these bytes are in memory, so that the sum does not overflow.
-        self.bytes = self.bytes.checked_add(size).ok_or(never())?;
+        self.bytes = self.bytes.checked_add(size).ok_or(NoMemory)?;
         Ok(())
     }
 }
