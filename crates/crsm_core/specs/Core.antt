@@ -25,7 +25,7 @@ pub record CoreAwaits (core : Core) (me n : ℕ) (log : Log) : Type 0 where
 
 -- the boot of a core that is not spent can be recorded
 abbrev pub CanBegin : Core → Type 0
-CanBegin core = core.is_spent ≡ false → CanBoot core.state
+CanBegin core = core.is_spent ≡ false → ∥ CanBoot core.state ∥₁
 
 -- The core stands for the replica: all its fields agree with the replica's lists.
 pub record CoreStands (core : Core) (r : Replica) : Type 0 where

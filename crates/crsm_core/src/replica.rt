@@ -90,4 +90,11 @@ impl Core {
     {
         self.state.ledger()
     }
+
+    /// Returns the ledger; all else that the core holds is dropped.
+    pub fn into_ledger(self) -> Ledger
+        ensures { (r : Replica) → CoreStands self r → LedgerStands r.me r.n result r.log }
+    {
+        self.state.into_ledger()
+    }
 }

@@ -15,6 +15,7 @@ mod records;
 mod replies;
 mod state;
 mod steps;
+mod stopping;
 
 pub use laws::{commits_go_on, states_are_sound};
 pub use state::ReplicaState;

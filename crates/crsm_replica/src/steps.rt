@@ -48,7 +48,7 @@ impl ReplicaState {
     /// Records the boot. The first boot of a replica that began the cluster enters epoch 0. `NoMemory` if memory runs
     /// out.
     pub fn begin(&mut self) -> Result<(), NoMemory>
-        requires { CanBoot self.old }
+        requires { ∥ CanBoot self.old ∥₁ }
         ensures { IfOk result (λ _. (me n : ℕ) (log : List Rec) → AwaitsBoot self.old me n log → boots log < u64_max → ReplicaStands self.new (boot me n log)) }
     {
         let is_founding = self.ledger.boot() == 0 && self.me < self.ledger.n();
@@ -71,7 +71,7 @@ impl ReplicaState {
     /// Records the boot.
     #[tactic(auto, unfolding(crate::specs::Replica::ReplicaStands, crate::specs::Replica::AwaitsBoot))]
     fn boot_again(&mut self) -> Result<(), NoMemory>
-        requires { CanBoot self.old }
+        requires { ∥ CanBoot self.old ∥₁ }
         ensures { IfOk result (λ _. (me n : ℕ) (log : List Rec) → AwaitsBoot self.old me n log → boots log < u64_max → ReplicaStands self.new (boot_again me n log)) }
     {
         let me = self.me.min(MAX_REPLICAS - 1);

@@ -1,5 +1,6 @@
 use Rattle.std.proofs.Common.{◌≡◌, ◌≤◌, ◌∙◌, ap, sym, subst, arith, rules}
 use Rattle.std.proofs.lemmas.Bool.{false≢true}
+use Rattle.std.proofs.lemmas.Grind.{not_there}
 use Rattle.crsm_spec.specs.Fits.{fits}
 use Rattle.crsm_spec.specs.Types.{Rec}
 use Rattle.crsm_replica_output.specs.Made.{nothing}
@@ -18,7 +19,7 @@ put-requires c =
 pub unreachable-requires : goal.unreachable-requires
 unfolding AwaitsBoot
 unreachable-requires c =
-    let k = c.requires in
+    not_there c.requires (λ k.
     let s = k.awaits in
     let few : k.n ≤ 15 = s.ledger.says.few in
     let number : c.min-me.result ≡ k.me = (let a = c.min-me.ensures in let b = s.mine in let d = s.number in omega (arith, a, b, d)) in
@@ -26,7 +27,7 @@ unreachable-requires c =
     let same : Rec.Boot c.min-me.result c.min-n.result ≡ Rec.Boot k.me k.n = same_boot c.min-me.result c.min-n.result k.me k.n number count in
     let no = it_does_not c.in_ok-fit.fit k.me k.n k.log (Rec.Boot c.min-me.result c.min-n.result) nothing c.put.new.ledger c.put.new.output (search rules)
     (c.in_ok-fit.ensures.kept k.me k.n k.log nothing s.ledger s.output) in
-    false≢true (sym no.0 ∙ ap (fits k.me k.n k.log) same ∙ boot_fits k.me k.n k.log k.room)
+    false≢true (sym no.0 ∙ ap (fits k.me k.n k.log) same ∙ boot_fits k.me k.n k.log k.room))
 
 pub returns : goal.returns
 unfolding ReplicaStands AwaitsBoot
