@@ -72,6 +72,15 @@ no_bad_log errors.PortFault entry kind is = cc
 no_bad_log errors.Failed entry kind is = cc
 no_bad_log errors.NoMemory entry kind is = cc
 
+-- a put that fails is of no bad log, and its fault is met in four calls
+pub failed_not_bad : (gate : ℕ) (body : List ℕ) (old new : Meaning) (why : BootError) → FailsToKeep gate body old new why → (entry kind : ℕ) → why ≡ boots.BadLog entry kind → ⊥
+failed_not_bad gate body old new why f entry kind is = no_bad_log f.turn entry kind (sym f.is ∙ is)
+
+pub failed_meets : (gate : ℕ) (body : List ℕ) (old new : Meaning) (why : BootError) → FailsToKeep gate body old new why → IsTrue old.honest → why ≡ boots.DiskFault → MeetsIn 4 old.plan
+failed_meets gate body old new why f honest is p told =
+    let stops = f.not_kept.stops (disk_fault f.turn (sym f.is ∙ is)) in
+    (stops.made, stops.short, stops.good p honest told)
+
 -- the calls of a mount that went well
 mounted_served : (me n : ℕ) (old mid : Meaning) (gate : ℕ) (bodies : List (List ℕ)) → Mounts old mid gate bodies → IsTrue old.honest →
     (p : Plan) → old.plan ≡ Some p → Serves (refusal_count (reading old.seen) old.seen) p.good
@@ -87,13 +96,9 @@ adds_some (b ∷ body) before after some adds = adds
 as_read : (old : Meaning) (file : List ℕ) → IsAsBefore old file → ReadsAsBefore old file
 as_read old file = elim [ inl may ↦ inl may | inr same ↦ inr (ap reading_in same) ]
 
-module _ (one : (a b : List Rec) (s : List ℕ) → SpeltBody a s → SpeltBody b s → a ≡ b) (me n : ℕ) (old mid : Meaning) (gate : ℕ) (bodies : List (List ℕ)) (log : Log) (begun : Begun)
-    (mounts : Mounts old mid gate bodies) (are_kept : AreKept me n [] bodies log) (begins : BeginsOn begun me n log) where
-  abbrev records : List Rec
-  records = (boot me n log).batch
-
-  body_some : 0 < length begun.body
-  body_some = subst (λ (b : List ℕ). 0 < length b) (sym begins.body) (boot_some me n log)
+module _ (me n : ℕ) (log : Log) (begun : Begun) (begins : BeginsOn begun me n log) where
+  begun_some : 0 < length begun.body
+  begun_some = subst (λ (b : List ℕ). 0 < length b) (sym begins.body) (boot_some me n log)
 
   mine : (boot me n log).replica.me ≡ me
   unfolding fresh
@@ -103,13 +108,54 @@ module _ (one : (a b : List Rec) (s : List ℕ) → SpeltBody a s → SpeltBody 
   unfolding fresh
   count = (boot_grown me n log).n
 
-  group : IsGroup me n log (boot me n log).batch (boot me n log).replica.log
+  boot_group : IsGroup me n log (boot me n log).batch (boot me n log).replica.log
   unfolding fresh
-  group =
+  boot_group =
       let r = (boot me n log).replica in
       let grown = (boot_grown me n log).log in
       let fits = subst (λ (k : ℕ). EachFits k n r.log) mine (subst (λ (k : ℕ). EachFits r.me k r.log) count (core_fits begun.core.value r begins.core)) in
-      record { spelt = begins.spelt; fit = (fits_in_turn me n log records (subst (EachFits me n) grown fits)).0; log = grown }
+      record { spelt = begins.spelt; fit = (fits_in_turn me n log (boot me n log).batch (subst (EachFits me n) grown fits)).0; log = grown }
+
+  -- ---- it is kept on a log that is mounted
+
+  module _ {D : Type 0} {g : _} (b : Booted D g) (mid new : Meaning) (gate : ℕ) (bodies : List (List ℕ)) (there : IsTrue mid.honest → HasLog me n mid.seen log) (booted : IsBooted b begun bodies) (well : KeptWell gate begun.body mid new) where
+    file : IsTrue new.honest → HasLog me n new.seen (boot me n log).replica.log
+    file honest =
+        let at_mid : IsTrue mid.honest = sym well.goes.honest ∙ honest in
+        added me n mid.seen log (boot me n log).batch (boot me n log).replica.log (there at_mid) boot_group new.seen (subst (λ (bs : List ℕ). Adds bs mid.seen new.seen) begins.body (well.added at_mid))
+
+    pub boots_kept : Boots b new me n log
+    unfolding ShellStands records_of sends_of packets_for body_bytes body_size
+    boots_kept = record {
+      stands = record {
+        core = subst (λ (c : Core). CoreStands c (boot me n log).replica) (sym booted.core) begins.core;
+        well = booted.failed;
+        body = booted.body;
+        spelt = tt;
+        outbox = booted.outbox;
+        pending = booted.pending;
+        log = refl;
+        file = λ honest. subst (λ (k : ℕ). HasLog k (boot me n log).replica.n new.seen (boot me n log).replica.log) (sym mine)
+            (subst (λ (k : ℕ). HasLog me k new.seen (boot me n log).replica.log) (sym count) (file honest));
+      };
+      lines = booted.lines ∙ begins.lines;
+      size = booted.size ∙ ap length begins.body;
+    }
+
+    -- four calls of the disk keep it
+    pub kept_used : IsTrue mid.honest → (p : Plan) → mid.plan ≡ Some p → Used 4 p new.plan
+    kept_used honest p told = subst (λ (k : ℕ). Used k p new.plan) (some_count begun.body begun_some) (well.plan p honest told)
+
+module _ (one : (a b : List Rec) (s : List ℕ) → SpeltBody a s → SpeltBody b s → a ≡ b) (me n : ℕ) (old mid : Meaning) (gate : ℕ) (bodies : List (List ℕ)) (log : Log) (begun : Begun)
+    (mounts : Mounts old mid gate bodies) (are_kept : AreKept me n [] bodies log) (begins : BeginsOn begun me n log) where
+  abbrev records : List Rec
+  records = (boot me n log).batch
+
+  body_some : 0 < length begun.body
+  body_some = begun_some me n log begun begins
+
+  group : IsGroup me n log records (boot me n log).replica.log
+  group = boot_group me n log begun begins
 
   -- what was found
   found_bodies : IsTrue old.honest → bodies_of old.seen ≡ bodies
@@ -150,29 +196,8 @@ module _ (one : (a b : List Rec) (s : List ℕ) → SpeltBody a s → SpeltBody 
   -- ---- it is kept
 
   module _ {D : Type 0} {g : _} (b : Booted D g) (new : Meaning) (booted : IsBooted b begun bodies) (well : KeptWell gate begun.body mid new) where
-    file : IsTrue new.honest → HasLog me n new.seen (boot me n log).replica.log
-    file honest =
-        let at_mid : IsTrue mid.honest = sym well.goes.honest ∙ honest in
-        let at_old : IsTrue old.honest = sym mounts.goes.honest ∙ at_mid in
-        added me n mid.seen log records (boot me n log).replica.log (there at_old) group new.seen (subst (λ (bs : List ℕ). Adds bs mid.seen new.seen) begins.body (well.added at_mid))
-
     pub boots_shell : Boots b new me n log
-    unfolding ShellStands records_of sends_of packets_for body_bytes body_size
-    boots_shell = record {
-      stands = record {
-        core = subst (λ (c : Core). CoreStands c (boot me n log).replica) (sym booted.core) begins.core;
-        well = booted.failed;
-        body = booted.body;
-        spelt = tt;
-        outbox = booted.outbox;
-        pending = booted.pending;
-        log = refl;
-        file = λ honest. subst (λ (k : ℕ). HasLog k (boot me n log).replica.n new.seen (boot me n log).replica.log) (sym mine)
-            (subst (λ (k : ℕ). HasLog me k new.seen (boot me n log).replica.log) (sym count) (file honest));
-      };
-      lines = booted.lines ∙ begins.lines;
-      size = booted.size ∙ ap length begins.body;
-    }
+    boots_shell = boots_kept me n log begun begins b mid new gate bodies (λ honest. there (sym mounts.goes.honest ∙ honest)) booted well
 
     pub boots_on : IsTrue old.honest → BootsOn me n log old new
     boots_on honest = record {

@@ -1,11 +1,12 @@
 -- The pending steps of a shell, as a group of records after the durable log.
-use Rattle.std.proofs.Common.{◌≡◌, IsTrue, ℕ, ◌<◌, List, length, sym, ◌∙◌, ap, subst, inl}
+use Rattle.std.proofs.Common.{◌≡◌, IsTrue, ℕ, ◌<◌, List, [], ◌∷◌, length, refl, sym, ◌∙◌, ap, subst, inl, arith}
 use Rattle.crsm_replica_epoch.specs.EpochState.{EachFits}
 use Rattle.crsm_spec.specs.Log.{Log}
 use Rattle.crsm_spec.specs.Moments.{is_kept}
 use Rattle.crsm_spec.specs.Replica.{Replica}
 use Rattle.crsm_spec.specs.Draft.{Draft}
 use Rattle.crsm_base.specs.Records.{body_bytes}
+use Rattle.crsm_ledger.specs.Recovered.{with_records}
 use Rattle.crsm_disk.specs.Meaning.{LeavesOnly, Meaning}
 use Rattle.crsm_disk.proofs.Moments.{started, weaker}
 use Rattle.crsm_port_image.specs.Image.{image_of}
@@ -17,6 +18,11 @@ use Rattle.crsm_shell.specs.Shell.{HasLog, ShellStands, StandsInside, records_of
 use Rattle.crsm_shell.proofs.Cores.{core_fits}
 use Rattle.crsm_shell.proofs.Files.{IsGroup, added, one_of, one_of_two}
 use Rattle.crsm_shell.proofs.Records.{fits_in_turn}
+
+no_records_pend : (kept : Log) (steps : List Draft) → length steps ≡ 0 → with_records kept (records_of steps) ≡ kept
+unfolding records_of
+no_records_pend kept [] none = refl
+no_records_pend kept (x ∷ steps) none = absurd (omega (arith, none))
 
 module _ {D : Type 0} {g : _} (shell : Shell D g) (m : Meaning) (kept : Log) (r : Replica) (steps : List Draft) where
   pub inside : ShellStands shell m kept r steps → StandsInside shell m kept r steps
@@ -30,6 +36,10 @@ module _ {D : Type 0} {g : _} (shell : Shell D g) (m : Meaning) (kept : Log) (r 
     fit = (fits_in_turn r.me r.n kept (records_of steps) (subst (EachFits r.me r.n) s.log (core_fits shell.core.value r s.core))).0;
     log = s.log;
   }
+
+  -- where nothing is pending
+  pub all_kept : ShellStands shell m kept r steps → length steps ≡ 0 → r.log ≡ kept
+  all_kept s none = (inside s).log ∙ no_records_pend kept steps none
 
   pub left_one : ShellStands shell m kept r steps → IsTrue m.honest → (new : Meaning) (body : List ℕ) → body ≡ body_bytes (records_of steps) →
       LeavesOnly m new (IsLeft (bodies_of m.seen) body) → LeavesOnly m new (IsOneOf r.me r.n kept r.log)

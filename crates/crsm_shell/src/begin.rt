@@ -5,7 +5,7 @@ ghost use Rattle.crsm_ledger.specs.Recovered.{AreKept};
 ghost use Rattle.crsm_ledger.specs.Ledger.{LedgerStands};
 ghost use Rattle.crsm_spec.specs.Clock.{u64_max};
 ghost use Rattle.crsm_spec.specs.Log.{Log, boots};
-ghost use Rattle.crsm_shell.specs.Beginning.{BeginsOn, IsRefusal};
+ghost use Rattle.crsm_shell.specs.Beginning.{BeginsOn, IsLedgerOf, IsLedgerOfOne, IsRefusal};
 
 use crate::errors::BootError;
 use crsm_base::{Bodies, Bytes, Lines, NoMemory};
@@ -44,8 +44,20 @@ pub(crate) fn begin(
     ensures room { IfOk result (λ b. length b.buffer.items ≡ 8192) }
     ensures refused { IfErr result (IsRefusal me n bodies.now) }
 {
-    let (peers, buffer) = room_for(alloc, peers)?;
     let ledger = recovered(alloc, me, n, bodies)?;
+    begin_on(alloc, peers, ledger)
+}
+
+/// Boots a core on the ledger of its log.
+pub(crate) fn begin_on(alloc: Global, peers: &[u64], ledger: Ledger) -> Result<Begun, BootError>
+    requires { ∥ IsLedgerOfOne ledger ∥₁ }
+    ensures begins { IfOk result (λ b. (me n : ℕ) (log : Log) → IsLedgerOf ledger me n log → BeginsOn b me n log) }
+    ensures peers { IfOk result (λ b. b.peers.items ≡ peers.now) }
+    ensures room { IfOk result (λ b. length b.buffer.items ≡ 8192) }
+    ensures refused { IfErr result (λ why. why ≡ BootError.NoMemory) }
+{
+    let (peers, buffer) = room_for(alloc, peers)?;
+    let ledger = with_room(ledger)?;
     let mut core = Core::new(ledger)?;
     let batch = core.begin()?;
     let mut body = Bytes::new(alloc);
@@ -71,11 +83,11 @@ fn recovered(alloc: Global, me: u32, n: u32, bodies: &Bodies) -> Result<Ledger, 
     requires me_below { me < 15 }
     requires some { 1 ≤ n }
     requires few { n ≤ 15 }
-    ensures whole { IfOk result (λ ledger. (log : Log) × AreKept me n [] bodies.now log × LedgerStands me n ledger log × (boots log < u64_max)) }
+    ensures whole { IfOk result (λ ledger. (log : Log) × AreKept me n [] bodies.now log × LedgerStands me n ledger log) }
     ensures refused { IfErr result (IsRefusal me n bodies.now) }
 {
     match Ledger::recover(alloc, me, n, bodies) {
-        Ok(ledger) => with_room(ledger),
+        Ok(ledger) => Ok(ledger),
         Err(LedgerError::BadLog { entry, why }) => Err(BootError::BadLog { entry, why }),
         Err(LedgerError::NoMemory) => Err(BootError::NoMemory),
         // Recovery never returns this error.

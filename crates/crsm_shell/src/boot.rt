@@ -85,7 +85,7 @@ impl<D: Disk> Shell<D> {
 }
 
 /// Puts the boot on the log of these bodies.
-fn keep_boot<D: Disk>(
+pub(crate) fn keep_boot<D: Disk>(
     alloc: Global,
     log: Log<D>,
     bodies: Bodies,

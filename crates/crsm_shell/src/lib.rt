@@ -4,6 +4,7 @@
 //! sends. So a crash leaves all of them or none, and nothing is sent whose records may be lost.
 #![tactic(auto)]
 
+mod again;
 mod begin;
 mod boot;
 mod errors;
@@ -13,13 +14,16 @@ mod laws;
 mod make;
 mod readers;
 mod shell;
+mod stopped;
 mod take;
 mod turn;
 mod turned;
 
+pub use again::BootedAgain;
 pub use boot::Booted;
 pub use crsm_replica_io::{ReceivedInput, WantedInput};
 pub use errors::{BootError, TurnError};
 pub use laws::{empty_files_have_empty_logs, logs_are_not_bad, logs_are_one};
 pub use shell::Shell;
+pub use stopped::StoppedLog;
 pub use turned::TurnResult;
