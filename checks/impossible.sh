@@ -44,7 +44,7 @@ exit "$fail"
 # crsm_mpworld 9
 # crsm_replica 3
 # crsm_replica_output 2
-# crsm_sim_machine 4
+# crsm_sim_machine 1
 # crsm_sim_network 1
 # crsm_suspend 1
 # crsm_world 1

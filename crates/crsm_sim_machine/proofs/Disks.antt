@@ -7,8 +7,9 @@ use Rattle.crsm_disk.specs.Contract.{Arms}
 use Rattle.crsm_disk.specs.Memory.{Memory, meaning_of, good_left}
 use Rattle.crsm_log.specs.Log.{Used, less}
 use Rattle.crsm_spec.specs.Log.{Log, decision, known, executed}
+use Rattle.crsm_sim_machine.specs.declared.stopped.Left.{Left}
 use Rattle.crsm_sim_machine.specs.declared.stopped.Stopped.{Stopped}
-use Rattle.crsm_sim_machine.specs.States.{IsDisk, IsStopped, SumsUp}
+use Rattle.crsm_sim_machine.specs.States.{HasLeft, IsDisk, IsStopped, SumsUp}
 
 -- the plan of a disk in memory for its calls
 abbrev pub plan_of : Memory → Plan
@@ -39,6 +40,9 @@ nothing_told = record { known = refl; executed = refl }
 -- the same place, under other names of its numbers
 pub renamed : (left : Stopped) (log : Log) (a b c d : ℕ) → a ≡ b → c ≡ d → IsStopped a c left log → IsStopped b d left log
 renamed left log a b c d p q h = subst (λ x. IsStopped b x left log) q (subst (λ x. IsStopped x c left log) p h)
+
+pub renamed_left : (left : Left) (log : Log) (a b c d : ℕ) → a ≡ b → c ≡ d → HasLeft a c left log → HasLeft b d left log
+renamed_left left log a b c d p q h = subst (λ x. HasLeft b x left log) q (subst (λ x. HasLeft x c left log) p h)
 
 pub renamed_disk : (disk : Memory) (log : Log) (a b c d : ℕ) → a ≡ b → c ≡ d → IsDisk a c disk log → IsDisk b d disk log
 renamed_disk disk log a b c d p q h = subst (λ x. IsDisk b x disk log) q (subst (λ x. IsDisk x c disk log) p h)

@@ -30,6 +30,10 @@ both b is other = cc
 
 -- ---- it has not failed
 
+pub is_well : {g : _} (shell : Shell Memory g) (kept : Log) (r : Replica) (steps : List Draft) → ShellStands shell (disk_meaning (disk_of shell)) kept r steps → has_failed shell ≡ false
+unfolding ShellStands
+is_well shell kept r steps stands = stands.well
+
 pub not_failed : {g : _} (shell : Shell Memory g) (kept : Log) (r : Replica) (steps : List Draft) → ShellStands shell (disk_meaning (disk_of shell)) kept r steps → has_failed shell ≡ true → ⊥
 unfolding ShellStands
 not_failed shell kept r steps stands failed = both (has_failed shell) failed stands.well

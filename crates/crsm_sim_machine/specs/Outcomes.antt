@@ -11,9 +11,9 @@ use Rattle.crsm_port_faults.specs.Failing.{good_of}
 use Rattle.crsm_disk.specs.Memory.{Memory as Disk}
 use Rattle.crsm_ledger.specs.Recovered.{with_records}
 use Rattle.crsm_port.specs.Memory.{Memory}
-use Rattle.crsm_shell.specs.declared.boot.Booted.{Booted}
 use Rattle.crsm_shell.specs.declared.shell.Shell.{Shell}
 use Rattle.crsm_shell.specs.Shell.{sends_of}
+use Rattle.crsm_sim_machine.specs.declared.start.Running.{Running}
 use Rattle.crsm_sim_machine.specs.declared.stopped.Stopped.{Stopped}
 use Rattle.crsm_sim_machine.specs.declared.machine.Machine.{Machine}
 use Rattle.crsm_sim_machine.specs.declared.step.Step.{Step}
@@ -70,8 +70,8 @@ abbrev pub HasBooted : Machine → (me n : ℕ) → Boot → Draft → Type 0
 HasBooted machine me n boot x = Boots boot x × MachineStands machine me n (Site.Up x.replica)
 
 -- the same of a shell that was booted
-abbrev pub IsBooted : {g : _} → (me n : ℕ) → Booted Disk g → Draft → Type 0
-IsBooted me n booted x = (booted.lines ≡ x.lines) × (booted.size ≡ body_size x.batch) × IsUpAs me n booted.shell x.replica.log x.replica []
+abbrev pub IsRunning : (me n : ℕ) → Running → Draft → Type 0
+IsRunning me n running x = (running.boot.lines ≡ x.lines) × (running.boot.size ≡ body_size x.batch) × IsUpAs me n running.shell x.replica.log x.replica []
 
 -- ---- a step that is stopped
 

@@ -9,10 +9,14 @@ use Rattle.crsm_spec.specs.Log.{Log, known, executed}
 use Rattle.crsm_spec.specs.Replica.{Replica}
 use Rattle.crsm_spec.specs.Draft.{Draft}
 use Rattle.crsm_spec.specs.World.{Site}
+use Rattle.crsm_shell.specs.declared.stopped.StoppedLog.{StoppedLog}
 use Rattle.crsm_shell.specs.declared.shell.Shell.{Shell}
+use Rattle.crsm_shell.specs.Again.{IsStoppedLog, disk_in}
 use Rattle.crsm_shell.specs.Shell.{HasLog, ShellStands, sends_of}
 use Rattle.crsm_shell.specs.Words.{disk_of, peers_of}
 use Rattle.crsm_sim_machine.specs.declared.stopped.LogSummary.{LogSummary}
+use Rattle.crsm_sim_machine.specs.declared.stopped.Left.{Left}
+use Rattle.crsm_sim_machine.specs.declared.stopped.Left.TheVariants as left
 use Rattle.crsm_sim_machine.specs.declared.stopped.Stopped.{Stopped}
 use Rattle.crsm_sim_machine.specs.declared.state.MachineState.{MachineState}
 use Rattle.crsm_sim_machine.specs.declared.state.MachineState.TheVariants as state
@@ -29,10 +33,20 @@ pub record SumsUp (summary : LogSummary) (log : Log) : Type 0 where
   pub known : summary.known ≡ known log
   pub executed : summary.executed ≡ length (executed log)
 
+-- replica me left this log, with its ledger, and all calls of its disk go well
+pub record IsLog (me n : ℕ) {g : _} (left : StoppedLog Memory g) (log : Log) : Type 0 where
+  pub stands : IsStoppedLog left (meaning_of (disk_in left)) me n log
+  pub well : good_left (disk_in left) ≡ None
+
+-- this log of replica me is left
+abbrev pub HasLeft : (me n : ℕ) → Left → Log → Type 0
+HasLeft me n (left.Disk disk) log = IsDisk me n disk log
+HasLeft me n (left.Log rest) log = IsLog me n rest log
+
 -- replica me is down, and left this log
-pub record IsStopped (me n : ℕ) (left : Stopped) (log : Log) : Type 0 where
-  pub disk : IsDisk me n left.disk log
-  pub summary : SumsUp left.summary log
+pub record IsStopped (me n : ℕ) (stopped : Stopped) (log : Log) : Type 0 where
+  pub left : HasLeft me n stopped.left log
+  pub summary : SumsUp stopped.summary log
 
 -- ---- up
 
@@ -60,13 +74,13 @@ WhereStepped shell P =
 abbrev pub IsIn : (me n : ℕ) → MachineState → Site → Type 0
 IsIn me n (state.Up shell) (Site.Up r) = IsUpAs me n shell r.log r []
 IsIn me n (state.Up shell) (Site.Down log) = ⊥
-IsIn me n (state.Down left) (Site.Up r) = ⊥
-IsIn me n (state.Down left) (Site.Down log) = IsStopped me n left log
+IsIn me n (state.Down stopped) (Site.Up r) = ⊥
+IsIn me n (state.Down stopped) (Site.Down log) = IsStopped me n stopped log
 IsIn me n state.Spent s = ⊥
 
 abbrev pub IsUpIn : (me n : ℕ) → MachineState → Replica → List Draft → Type 0
 IsUpIn me n (state.Up shell) r steps = (kept : Log) × IsUpAs me n shell kept r steps
-IsUpIn me n (state.Down left) r steps = ⊥
+IsUpIn me n (state.Down stopped) r steps = ⊥
 IsUpIn me n state.Spent r steps = ⊥
 
 -- ---- which of them
@@ -74,13 +88,13 @@ IsUpIn me n state.Spent r steps = ⊥
 -- the replica is up, or memory ran out
 abbrev pub IsUpOrSpent : MachineState → Type 0
 IsUpOrSpent (state.Up shell) = Unit {0}
-IsUpOrSpent (state.Down left) = ⊥
+IsUpOrSpent (state.Down stopped) = ⊥
 IsUpOrSpent state.Spent = Unit {0}
 
 -- the replica is down, or memory ran out
 abbrev pub IsDownOrSpent : MachineState → Type 0
 IsDownOrSpent (state.Up shell) = ⊥
-IsDownOrSpent (state.Down left) = Unit {0}
+IsDownOrSpent (state.Down stopped) = Unit {0}
 IsDownOrSpent state.Spent = Unit {0}
 
 -- ---- what is known of each machine
@@ -89,6 +103,18 @@ IsDownOrSpent state.Spent = Unit {0}
 pub record HasSomeLog (me n : ℕ) (disk : Memory) : Type 0 where
   pub log : Log
   pub on_disk : IsDisk me n disk log
+
+-- some log of replica me is left
+pub record HasSomeLeft (me n : ℕ) (left : Left) : Type 0 where
+  pub log : Log
+  pub has : HasLeft me n left log
+
+-- it is the log of some replica
+pub record HasSomeReplica {g : _} (left : StoppedLog Memory g) : Type 0 where
+  pub me : ℕ
+  pub n : ℕ
+  pub log : Log
+  pub is : IsLog me n left log
 
 -- replica me is up, on some log and with some steps that came since
 pub record IsUp (me n : ℕ) {g : _} (shell : Shell Memory g) : Type 0 where
@@ -104,5 +130,5 @@ IsSomeUp shell = (me : ℕ) × (n : ℕ) × IsUp me n shell
 -- the state is one of replica me, or memory ran out
 abbrev pub IsStateOf : (me n : ℕ) → MachineState → Type 0
 IsStateOf me n (state.Up shell) = IsUp me n shell
-IsStateOf me n (state.Down left) = HasSomeLog me n left.disk
+IsStateOf me n (state.Down stopped) = HasSomeLeft me n stopped.left
 IsStateOf me n state.Spent = Unit {0}

@@ -11,14 +11,14 @@ ghost use Rattle.crsm_spec.specs.Draft.{Draft};
 ghost use Rattle.crsm_spec.specs.Node.{turn};
 ghost use Rattle.crsm_sim_machine.specs.Arriving.{turn_of};
 ghost use Rattle.crsm_sim_machine.specs.Outcomes.{LeavesCut, is_cut_kept, log_after};
-ghost use Rattle.crsm_sim_machine.specs.States.{HasSomeLog, IsDisk, IsSomeUp, IsUp, IsUpAs, WhereStepped};
+ghost use Rattle.crsm_sim_machine.specs.States.{HasSomeLeft, HasSomeLog, IsDisk, IsSomeUp, IsUp, IsUpAs, WhereStepped};
 
 use crate::arrival::Arrival;
 use crate::sink_port::SinkPort;
 use crate::step::Step;
-use crate::stopped::{Stopped, image_of_disk, summary_of};
+use crate::stopped::{Left, Stopped, image_of_disk, summary_of};
 use crate::turn::take;
-use crsm_base::{NoMemory, never};
+use crsm_base::NoMemory;
 use crsm_disk::MemDisk;
 use crsm_shell::{Shell, TurnError};
 
@@ -73,8 +73,8 @@ fn stopped_disk(shell: Shell<MemDisk>, stop: PutStop) -> Result<MemDisk, NoMemor
         Err(TurnError::DiskFault) => Ok(image_of_disk(shell.into_disk())?),
         Err(TurnError::Failed) => unreachable!(),
         Err(TurnError::PortFault) => unreachable!(),
-        // A world is full long before a log is.
-        Err(TurnError::LogFull) => Err(never()),
+        // The log has no room for the records.
+        Err(TurnError::LogFull) => Err(NoMemory),
         Err(TurnError::NoMemory) => Err(NoMemory),
     }
 }
@@ -90,7 +90,7 @@ pub(crate) fn cut(
     requires up { ∥ IsSomeUp shell ∥₁ }
     ensures stands { IfOk result (λ cut. (me n : ℕ) (r : Replica) → IsUpAs me n shell r.log r [] → LeavesCut stop.calls stop.fill me n r (turn r (turn_of arrival.entry, reading)) cut.0 cut.1) }
     ensures spelt { IfOk result (λ cut. IfSome cut.0 (λ step. AllByRecursion FitsSent step.batch.sends)) }
-    ensures log { IfOk result (λ cut. (me n : ℕ) → IsUp me n shell → HasSomeLog me n cut.1.disk) }
+    ensures some { IfOk result (λ cut. (me n : ℕ) → IsUp me n shell → HasSomeLeft me n cut.1.left) }
 {
     let mut shell = shell;
     let before = summary_of(shell.state());
@@ -101,7 +101,7 @@ pub(crate) fn cut(
         return Ok((
             Some(step),
             Stopped {
-                disk,
+                left: Left::Disk(disk),
                 summary: after,
             },
         ));
@@ -109,7 +109,7 @@ pub(crate) fn cut(
     Ok((
         None,
         Stopped {
-            disk,
+            left: Left::Disk(disk),
             summary: before,
         },
     ))

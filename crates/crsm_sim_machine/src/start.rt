@@ -5,18 +5,18 @@ ghost use Rattle.crsm_spec.specs.Log.{Log};
 ghost use Rattle.crsm_spec.specs.Step as rules;
 ghost use Rattle.crsm_spec.specs.World as world;
 ghost use Rattle.crsm_spec.specs.World.{body_size};
-ghost use Rattle.crsm_sim_machine.specs.Outcomes.{Boots, HasBooted, IsBooted};
+ghost use Rattle.crsm_sim_machine.specs.Outcomes.{Boots, HasBooted, IsRunning};
 ghost use Rattle.crsm_sim_machine.specs.Machine.{IsNotUp, MachineStands, WhereDown};
-ghost use Rattle.crsm_sim_machine.specs.States.{HasSomeLog, IsDisk, IsUpAs};
+ghost use Rattle.crsm_sim_machine.specs.States.{HasLeft, HasSomeLeft, HasSomeLog, HasSomeReplica, IsDisk, IsLog, IsUpAs};
 
 use crate::laws::boots_are_quiet;
 use crate::machine::Machine;
 use crate::state::MachineState;
 use crate::step::Boot;
-use crate::stopped::{Stopped, never_booted};
-use crsm_base::{NoMemory, never};
+use crate::stopped::{Left, never_booted};
+use crsm_base::NoMemory;
 use crsm_disk::MemDisk;
-use crsm_shell::{BootError, Booted, Shell, logs_are_not_bad};
+use crsm_shell::{BootError, Shell, StoppedLog, logs_are_not_bad};
 use std::alloc::Global;
 use std::mem;
 
@@ -42,8 +42,8 @@ impl Machine {
         })
     }
 
-    /// Boots the replica, which must be down, on its disk, and returns the boot's output. `NoMemory` if memory runs
-    /// out.
+    /// Boots the replica, which must be down, on the log that it left, and returns the boot's output. `NoMemory` if
+    /// memory runs out, or its log has no room for the boot.
     #[tactic(auto, unfolding(crate::specs::Machine::MachineStands))]
     pub fn start(&mut self) -> Result<Boot, NoMemory>
         requires { IsNotUp self.old }
@@ -51,13 +51,10 @@ impl Machine {
     {
         boots_are_quiet();
         match mem::replace(&mut self.state, MachineState::Spent) {
-            MachineState::Down(left) => {
-                let booted = boot_on(self.alloc, self.me, self.n, left)?;
-                self.state = MachineState::Up(booted.shell);
-                Ok(Boot {
-                    lines: booted.lines,
-                    size: booted.size,
-                })
+            MachineState::Down(stopped) => {
+                let running = boot_on(self.alloc, self.me, self.n, stopped.left)?;
+                self.state = MachineState::Up(running.shell);
+                Ok(running.boot)
             }
             MachineState::Up(_) => unreachable!(),
             MachineState::Spent => Err(NoMemory),
@@ -65,21 +62,69 @@ impl Machine {
     }
 }
 
-/// Boots a replica on what a crash left. Its log is read again, and no call of the disk fails.
-fn boot_on(alloc: Global, me: u32, n: u32, left: Stopped) -> Result<Booted<MemDisk>, NoMemory>
+/// A replica that has booted, and the boot's output.
+#[derive(Drop)]
+struct Running {
+    shell: Shell<MemDisk>,
+    boot: Boot,
+}
+
+/// Boots a replica on what a crash left. No call of the disk fails.
+fn boot_on(alloc: Global, me: u32, n: u32, left: Left) -> Result<Running, NoMemory>
     requires below { me < 15 }
     requires some { 1 ≤ n }
     requires most { n ≤ 15 }
-    requires left { ∥ HasSomeLog me n left.disk ∥₁ }
-    ensures { IfOk result (λ booted. (log : Log) → IsDisk me n left.disk log → IsBooted me n booted (rules.boot me n log)) }
+    requires left { ∥ HasSomeLeft me n left ∥₁ }
+    ensures { IfOk result (λ running. (log : Log) → HasLeft me n left log → IsRunning me n running (rules.boot me n log)) }
+{
+    match left {
+        Left::Disk(disk) => boot_on_disk(alloc, me, n, disk),
+        Left::Log(log) => boot_on_log(alloc, log),
+    }
+}
+
+/// Boots a replica on its disk: the log is read.
+fn boot_on_disk(alloc: Global, me: u32, n: u32, disk: MemDisk) -> Result<Running, NoMemory>
+    requires below { me < 15 }
+    requires some { 1 ≤ n }
+    requires most { n ≤ 15 }
+    requires left { ∥ HasSomeLog me n disk ∥₁ }
+    ensures { IfOk result (λ running. (log : Log) → IsDisk me n disk log → IsRunning me n running (rules.boot me n log)) }
 {
     logs_are_not_bad();
-    match Shell::boot(alloc, me, n, &ADDRESSES, left.disk) {
-        Ok(booted) => Ok(booted),
+    match Shell::boot(alloc, me, n, &ADDRESSES, disk) {
+        Ok(booted) => Ok(Running {
+            shell: booted.shell,
+            boot: Boot {
+                lines: booted.lines,
+                size: booted.size,
+            },
+        }),
         Err((BootError::BadLog { .. }, _disk)) => unreachable!(),
         Err((BootError::DiskFault, _disk)) => unreachable!(),
-        // A world is full long before a log is.
-        Err((BootError::LogFull, _disk)) => Err(never()),
+        // The log has no room for the boot.
+        Err((BootError::LogFull, _disk)) => Err(NoMemory),
+        Err((BootError::NoMemory, _disk)) => Err(NoMemory),
+    }
+}
+
+/// Boots a replica on the log that it left, which is not read.
+fn boot_on_log(alloc: Global, left: StoppedLog<MemDisk>) -> Result<Running, NoMemory>
+    requires { ∥ HasSomeReplica left ∥₁ }
+    ensures { IfOk result (λ running. (me n : ℕ) (log : Log) → IsLog me n left log → IsRunning me n running (rules.boot me n log)) }
+{
+    match Shell::boot_again(alloc, &ADDRESSES, left) {
+        Ok(booted) => Ok(Running {
+            shell: booted.shell,
+            boot: Boot {
+                lines: booted.lines,
+                size: booted.size,
+            },
+        }),
+        Err((BootError::BadLog { .. }, _disk)) => unreachable!(),
+        Err((BootError::DiskFault, _disk)) => unreachable!(),
+        // The log has no room for the boot.
+        Err((BootError::LogFull, _disk)) => Err(NoMemory),
         Err((BootError::NoMemory, _disk)) => Err(NoMemory),
     }
 }

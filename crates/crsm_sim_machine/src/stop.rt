@@ -41,7 +41,7 @@ impl Machine {
 
     /// Runs one step that stops after a number of disk calls of its put, with the byte `fill` in the ranges that were
     /// not synced, and takes the replica down. Returns the output of the step, or `None` if the step is lost.
-    /// `NoMemory` if memory runs out.
+    /// `NoMemory` if memory runs out, or the log has no room for the records.
     #[tactic(auto, unfolding(crate::specs::Machine::MachineStands))]
     pub fn cut_at(
         &mut self,

@@ -6,12 +6,12 @@ ghost use Rattle.crsm_ledger.specs.Ledger.{LedgerStands};
 ghost use Rattle.crsm_spec.specs.Log.{Log};
 ghost use Rattle.crsm_spec.specs.Replica.{Replica};
 ghost use Rattle.crsm_shell.specs.Shell.{HasLog};
-ghost use Rattle.crsm_sim_machine.specs.States.{HasSomeLog, IsDisk, IsStopped, IsUp, IsUpAs, SumsUp};
+ghost use Rattle.crsm_sim_machine.specs.States.{HasSomeLeft, IsDisk, IsSomeUp, IsStopped, IsUp, IsUpAs, SumsUp};
 
 use crsm_base::NoMemory;
 use crsm_disk::MemDisk;
 use crsm_ledger::Ledger;
-use crsm_shell::{Shell, empty_files_have_empty_logs};
+use crsm_shell::{Shell, StoppedLog, empty_files_have_empty_logs};
 use std::alloc::Global;
 
 /// The summary of a log.
@@ -29,20 +29,29 @@ pub(crate) const NOTHING: LogSummary = LogSummary {
     executed: 0,
 };
 
-/// The state of a replica that is down: its disk, and the summary of its log.
+/// What is left of a replica that is down.
+#[derive(Drop)]
+pub(crate) enum Left {
+    /// The disk alone: no replica was booted on it, or a put stopped.
+    Disk(MemDisk),
+    /// The log with its ledger, of a replica that stopped after its last flush. All of the log was synced.
+    Log(StoppedLog<MemDisk>),
+}
+
+/// The state of a replica that is down: what is left of it, and the summary of its log.
 #[derive(Drop)]
 pub(crate) struct Stopped {
-    pub(crate) disk: MemDisk,
+    pub(crate) left: Left,
     pub(crate) summary: LogSummary,
 }
 
 /// Returns the state of a replica that never booted: an empty disk.
 pub(crate) fn never_booted(alloc: Global) -> Result<Stopped, NoMemory>
-    ensures { IfOk result (λ left. (me n : ℕ) → IsStopped me n left []) }
+    ensures { IfOk result (λ stopped. (me n : ℕ) → IsStopped me n stopped []) }
 {
     empty_files_have_empty_logs();
     Ok(Stopped {
-        disk: MemDisk::new(alloc, &[], None, 0)?,
+        left: Left::Disk(MemDisk::new(alloc, &[], None, 0)?),
         summary: NOTHING,
     })
 }
@@ -64,12 +73,22 @@ pub(crate) fn image_of_disk(disk: MemDisk) -> Result<MemDisk, NoMemory>
     Ok(disk.into_image()?)
 }
 
-/// Returns the state that a crash of a shell leaves. Pending steps would be lost; there are none.
+/// Returns the state that a crash of a shell leaves. Pending steps are lost.
 pub(crate) fn stopped_by(shell: Shell<MemDisk>) -> Result<Stopped, NoMemory>
-    ensures stands { IfOk result (λ left. (me n : ℕ) (r : Replica) → IsUpAs me n shell r.log r [] → IsStopped me n left r.log) }
-    ensures log { IfOk result (λ left. (me n : ℕ) → IsUp me n shell → HasSomeLog me n left.disk) }
+    requires { ∥ IsSomeUp shell ∥₁ }
+    ensures stands { IfOk result (λ stopped. (me n : ℕ) (r : Replica) → IsUpAs me n shell r.log r [] → IsStopped me n stopped r.log) }
+    ensures some { IfOk result (λ stopped. (me n : ℕ) → IsUp me n shell → HasSomeLeft me n stopped.left) }
 {
     let summary = summary_of(shell.state());
-    let disk = image_of_disk(shell.into_disk())?;
-    Ok(Stopped { disk, summary })
+    if shell.pending() > 0 {
+        let disk = image_of_disk(shell.into_disk())?;
+        return Ok(Stopped {
+            left: Left::Disk(disk),
+            summary,
+        });
+    }
+    Ok(Stopped {
+        left: Left::Log(shell.into_log()),
+        summary,
+    })
 }

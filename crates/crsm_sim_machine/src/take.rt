@@ -21,7 +21,8 @@ use crsm_port::MemPort;
 
 impl Machine {
     /// Runs one step at this reading of the clock, in microseconds, and makes its records durable. Returns its output,
-    /// and the index on the port of the first datagram that it sent. `NoMemory` if memory runs out.
+    /// and the index on the port of the first datagram that it sent. `NoMemory` if memory runs out, or the log has no
+    /// room for the records.
     #[tactic(auto, unfolding(crate::specs::Machine::MachineStands))]
     pub fn step(
         &mut self,
@@ -72,7 +73,7 @@ impl Machine {
     }
 
     /// Makes the records of the steps since the last `flush` durable, sends their datagrams over the port, and returns
-    /// the index on it of the first one. `NoMemory` if memory runs out.
+    /// the index on it of the first one. `NoMemory` if memory runs out, or the log has no room for the records.
     #[tactic(auto, unfolding(crate::specs::Machine::MachinePends, crate::specs::Machine::MachineStands))]
     pub fn flush(&mut self, port: &mut MemPort) -> Result<usize, NoMemory>
         requires { IsNotDown self.old }

@@ -105,8 +105,8 @@ pub(crate) fn flush(shell: &mut Shell<MemDisk>, port: &mut MemPort) -> Result<us
         Err(TurnError::Failed) => unreachable!(),
         Err(TurnError::PortFault) => unreachable!(),
         Err(TurnError::DiskFault) => unreachable!(),
-        // A world is full long before a log is.
-        Err(TurnError::LogFull) => Err(never()),
+        // The log has no room for the records.
+        Err(TurnError::LogFull) => Err(NoMemory),
         Err(TurnError::NoMemory) => Err(NoMemory),
     }
 }

@@ -16,7 +16,7 @@ returns-then-is_kept_at-clause-stands c me n r up =
       kept,
       made.0,
       record {
-        disk = subst (λ l. IsDisk me n c.in_ok-disk.disk l) (ap (λ (b : Bool). cond b x.replica.log r.log) kept) disk;
+        left = subst (λ l. IsDisk me n c.in_ok-disk.disk l) (ap (λ (b : Bool). cond b x.replica.log r.log) kept) disk;
         summary = c.summary_of-after.ensures x.replica.me x.replica.n x.replica.log (c.state-2.ensures r.log x.replica (x ∷ []) made.2.stands);
       },
     )
@@ -30,7 +30,7 @@ returns-clause-stands c me n r up =
     let disk = c.in_ok-disk.ensures.stands me n r.log x made.2 made.1 in (
       lost,
       record {
-        disk = subst (λ l. IsDisk me n c.in_ok-disk.disk l) (ap (λ (b : Bool). cond b x.replica.log r.log) lost) disk;
+        left = subst (λ l. IsDisk me n c.in_ok-disk.disk l) (ap (λ (b : Bool). cond b x.replica.log r.log) lost) disk;
         summary = c.summary_of-before.ensures r.me r.n r.log (c.state.ensures r.log r [] up.stands);
       },
     )
@@ -42,10 +42,12 @@ stopped_disk-requires-clause-up c =
     ∥∥₁_map c.requires.up
     (λ up. (up.0, up.1, record { kept = up.2.kept; replica = _; steps = _; is = (c.in_ok-step.ensures.stands up.0 up.1 up.2.kept up.2.replica up.2.steps up.2.is).2 }))
 
-pub returns-then-is_kept_at-clause-log : goal.returns-then-is_kept_at-clause-log
-returns-then-is_kept_at-clause-log c me n h =
-    c.in_ok-disk.ensures.log me n (record { kept = h.kept; replica = _; steps = _; is = (c.in_ok-step.ensures.stands me n h.kept h.replica h.steps h.is).2 })
+pub returns-then-is_kept_at-clause-some : goal.returns-then-is_kept_at-clause-some
+returns-then-is_kept_at-clause-some c me n h =
+    let some = c.in_ok-disk.ensures.log me n (record { kept = h.kept; replica = _; steps = _; is = (c.in_ok-step.ensures.stands me n h.kept h.replica h.steps h.is).2 }) in
+    record { log = some.log; has = some.on_disk }
 
-pub returns-clause-log : goal.returns-clause-log
-returns-clause-log c me n h =
-    c.in_ok-disk.ensures.log me n (record { kept = h.kept; replica = _; steps = _; is = (c.in_ok-step.ensures.stands me n h.kept h.replica h.steps h.is).2 })
+pub returns-clause-some : goal.returns-clause-some
+returns-clause-some c me n h =
+    let some = c.in_ok-disk.ensures.log me n (record { kept = h.kept; replica = _; steps = _; is = (c.in_ok-step.ensures.stands me n h.kept h.replica h.steps h.is).2 }) in
+    record { log = some.log; has = some.on_disk }

@@ -5,6 +5,6 @@ use Rattle.crsm_sim_machine.proofs.stopped.never_booted.Goals as goal
 
 pub returns : goal.returns
 returns c me n = record {
-  disk = subst (λ d. IsDisk me n d []) (sym c.in_ok-new.ensures) (record { holds = c.empty_files_have_empty_logs.ensures me n; well = refl });
+  left = subst (λ d. IsDisk me n d []) (sym c.in_ok-new.ensures) (record { holds = c.empty_files_have_empty_logs.ensures me n; well = refl });
   summary = nothing_told;
 }

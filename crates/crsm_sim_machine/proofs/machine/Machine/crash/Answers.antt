@@ -24,11 +24,17 @@ returns-in-Down c me n s h = (h.0, h.1, go s (subst (λ p. IsIn me n p s) (sym c
 
 -- ---- the state is one of the replica
 
+pub stopped_by-requires : goal.stopped_by-requires
+stopped_by-requires c =
+    let i = c.args.self.now.me in
+    let j = c.args.self.now.n in
+    ∥∥₁_map (subst (λ p. ∥ IsStateOf i j p ∥₁) (sym c.in-Up.ensures.value) c.args.self.now.stands) (λ h. (i, j, h))
+
 pub invariant_of-self-in-Up-clause-stands : goal.invariant_of-self-in-Up-clause-stands
 invariant_of-self-in-Up-clause-stands c =
     let i = c.args.self.now.me in
     let j = c.args.self.now.n in
-    ∥∥₁_map (subst (λ p. ∥ IsStateOf i j p ∥₁) (sym c.in-Up.ensures.value) c.args.self.now.stands) (λ h. c.in_ok-stopped_by-in-Up.ensures.log i j h)
+    ∥∥₁_map (subst (λ p. ∥ IsStateOf i j p ∥₁) (sym c.in-Up.ensures.value) c.args.self.now.stands) (λ h. c.in_ok-stopped_by-in-Up.ensures.some i j h)
 
 pub invariant_of-self-in-Down-clause-stands : goal.invariant_of-self-in-Down-clause-stands
 invariant_of-self-in-Down-clause-stands c =

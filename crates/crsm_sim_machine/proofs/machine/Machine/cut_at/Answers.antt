@@ -27,7 +27,7 @@ pub invariant_of-self-in-Up-clause-stands : goal.invariant_of-self-in-Up-clause-
 invariant_of-self-in-Up-clause-stands c =
     let i = c.args.self.now.me in
     let j = c.args.self.now.n in
-    ∥∥₁_map (subst (λ p. ∥ IsStateOf i j p ∥₁) (sym c.in-Up.ensures.value) c.args.self.now.stands) (λ h. c.in_ok-step-in-Up.ensures.log i j h)
+    ∥∥₁_map (subst (λ p. ∥ IsStateOf i j p ∥₁) (sym c.in-Up.ensures.value) c.args.self.now.stands) (λ h. c.in_ok-step-in-Up.ensures.some i j h)
 
 -- ---- what it is not asked for
 

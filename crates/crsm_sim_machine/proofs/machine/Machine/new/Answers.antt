@@ -4,4 +4,4 @@ use Rattle.crsm_sim_machine.proofs.machine.Machine.new.Goals as goal
 
 pub invariant_of-result-clause-stands : goal.invariant_of-result-clause-stands
 invariant_of-result-clause-stands c =
-    merely (record { log = []; on_disk = (c.in_ok-never_booted.ensures c.args.me c.args.n).disk })
+    merely (record { log = []; has = (c.in_ok-never_booted.ensures c.args.me c.args.n).left })
