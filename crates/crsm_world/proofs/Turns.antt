@@ -11,8 +11,8 @@ use Rattle.crsm_spec.specs.Replica.{Replica}
 use Rattle.crsm_spec.specs.Draft.{Draft, begun}
 use Rattle.crsm_spec.specs.Step.{Input, step}
 use Rattle.crsm_spec.specs.Node.{Turn, turn, input_of}
-use Rattle.crsm_spec.specs.World.{Site, Packet, World, Ending, is_up, log_of, log_at, lost_step}
-use Rattle.crsm_spec.specs.Moments.{cut_at, is_kept, silent, step_at, step_at_site, junk_at, come, use_up}
+use Rattle.crsm_spec.specs.World.{Site, Packet, World, Ending, is_up, log_of, log_at}
+use Rattle.crsm_spec.specs.Moments.{silent, step_at, step_at_site, junk_at, come, use_up}
 use Rattle.crsm_sim_network.specs.declared.PacketView.{PacketView}
 use Rattle.crsm_world.specs.Machines.{is_up_in, up_in}
 use Rattle.crsm_sim_network.specs.Packets.{IsPacketView, used_up}
@@ -138,10 +138,3 @@ get_set (q ∷ ps) (suc k) a p e = get_set ps k a p e
 pub log_here : (v : World) (k : ℕ) (p : Site) → slice_get v.sites k ≡ Some p → log_at v k ≡ log_of p
 unfolding log_at
 log_here v k p e = ap (λ o. option_map_or log_of o []) e
-
--- ---- a step that is lost
-
--- a put that stops behind its first write keeps nothing
-pub lost_at : (v : World) (k : ℕ) (x : Draft) → lost_step v k x ≡ cut_at 1 1 v k x
-unfolding cut_at is_kept
-lost_at v k x = refl

@@ -17,7 +17,7 @@ pub(crate) enum Ending {
     Whole,
     /// The replica stops once its records are durable and the first `sends` of its datagrams and replies are sent.
     Kept { sends: u64 },
-    /// The replica stops after the first write of its put: its records are lost.
+    /// The replica stops before its records are durable: they are lost, and nothing is sent.
     Lost,
     /// The replica stops during its put.
     At { stop: StepStop },

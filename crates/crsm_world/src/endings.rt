@@ -115,11 +115,8 @@ impl Machines {
         match ending {
             Ending::Whole => Ok(self.step_whole(k, arrival, reading)?),
             Ending::Kept { sends } => Ok(self.step_kept(k, sends, arrival, reading)?),
-            Ending::Lost => {
-                // The gate that was not synced then reads as open, and the records are lost all the same.
-                let stop = StepStop { calls: 1, fill: 1 };
-                Ok(self.step_stopped(k, stop, arrival, reading)?)
-            }
+            // The step is not run: its records would be lost, and nothing would be sent.
+            Ending::Lost => Ok(self.go_down(k)?),
             Ending::At { stop } => Ok(self.step_stopped(k, stop, arrival, reading)?),
         }
     }

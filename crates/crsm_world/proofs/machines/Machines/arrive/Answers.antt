@@ -2,11 +2,10 @@ use Rattle.std.specs.Prelude.{slice_get}
 use Rattle.std.proofs.Common.{◌∙◌, ap, sym}
 use Rattle.crsm_spec.specs.World.{whole_step, cut_step, lost_step}
 use Rattle.crsm_spec.specs.Moments.{cut_at}
-use Rattle.crsm_spec.specs.Node.{turn}
 use Rattle.crsm_sim_machine.specs.Arriving.{turn_of}
 use Rattle.crsm_world.specs.Turning.{ending_of}
-use Rattle.crsm_world.proofs.Turns.{lost_at, turn_silent, up_found}
-use Rattle.crsm_world.proofs.Leading.{leaves_as, leaves_here}
+use Rattle.crsm_world.proofs.Turns.{turn_silent, up_found}
+use Rattle.crsm_world.proofs.Leading.{leaves_here}
 use Rattle.crsm_world.proofs.machines.Machines.arrive.Goals as goal
 
 pub returns-in_default-clause-leaves : goal.returns-in_default-clause-leaves
@@ -26,13 +25,12 @@ returns-in_ok-step_kept-in-Kept-clause-leaves c v h =
     let e = ap (slice_get v.sites) u.number ∙ u.up in
     rw c.in-Kept.is (leaves_here (cut_step c.in-Kept.sends) v c.args.k c.in-Some.k (turn_of c.args.arrival) c.args.reading _ _ u (c.in_ok-step_kept-in-Kept.ensures.leaves v u.replica h e))
 
-pub returns-in_ok-step_stopped-in-Lost-clause-leaves : goal.returns-in_ok-step_stopped-in-Lost-clause-leaves
-unfolding ending_of
-returns-in_ok-step_stopped-in-Lost-clause-leaves c v h =
+pub returns-in_ok-go_down-in-Lost-clause-leaves : goal.returns-in_ok-go_down-in-Lost-clause-leaves
+unfolding ending_of lost_step
+returns-in_ok-go_down-in-Lost-clause-leaves c v h =
     let u = up_found v.sites c.args.k c.in-Some.k (sym c.in-Some.is ∙ c.up.ensures.up v.n v.sites h) in
     let e = ap (slice_get v.sites) u.number ∙ u.up in
-    rw c.in-Lost.is (leaves_here lost_step v c.args.k c.in-Some.k (turn_of c.args.arrival) c.args.reading _ _ u
-    (leaves_as _ _ v _ _ (lost_at v c.in-Some.k (turn u.replica (turn_of c.args.arrival, c.args.reading))) (c.in_ok-step_stopped-in-Lost.ensures.leaves v u.replica h e)))
+    rw c.in-Lost.is (leaves_here lost_step v c.args.k c.in-Some.k (turn_of c.args.arrival) c.args.reading _ _ u (c.in_ok-go_down-in-Lost.ensures.leaves v _ h e))
 
 pub returns-in_ok-step_stopped-in-At-clause-leaves : goal.returns-in_ok-step_stopped-in-At-clause-leaves
 unfolding ending_of lost_step
