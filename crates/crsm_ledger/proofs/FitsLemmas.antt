@@ -9,26 +9,26 @@ use Rattle.crsm_spec.specs.Types.{Stamp, Ballot, Entry, Decision, Rec}
 use Rattle.crsm_spec.specs.Clock.{u64_max}
 use Rattle.crsm_spec.specs.Lists.{has, first_of, numbers_below}
 use Rattle.crsm_spec.specs.Quorum.{spec_decided}
-use Rattle.crsm_spec.specs.Log.{Log, known, start, members, boots, active, above, last_stamp, unexecuted, executed, has_entered}
+use Rattle.crsm_spec.specs.Log.{Log, known, start, members, boots, active, above, last_stamp, unexecuted, executed, logged, has_entered}
 use Rattle.crsm_spec.specs.Fits.{fits, booted, is_newest, can_be_members}
 use Rattle.crsm_ledger.specs.declared.ledger.Ledger.{Ledger}
 use Rattle.crsm_ledger.specs.Executed.{position_of, goes_on_behind}
 use Rattle.crsm_ledger.specs.Ledger.{FieldsStand}
 use Rattle.crsm_ledger.proofs.ExecutedLemmas.{goes_on-position}
 use Rattle.crsm_fact_log.proofs.Known.{known-epoch, known-members}
-use Rattle.crsm_ledger.proofs.ReadLemmas.{me-is, n-is, boots-is, known-is, start-is, live-is, suspended-is, entered-is, promised-is, accepted-is, logged-is}
+use Rattle.crsm_ledger.proofs.ReadLemmas.{me-is, n-is, boots-is, known-is, start-is, live-is, suspended-is, entered-is, promised-is, accepted-is}
 
 pub fits-boot : {me n : ℕ} {l : Ledger} {log : Log} (s : FieldsStand me n l log) (m k : ℕ) → ((m == l.me && k == l.n) && nat_lt l.boots u64_max) ≡ fits me n log (Rec.Boot m k)
 unfolding fits
 fits-boot s m k = rw (me-is s, n-is s, boots-is s)
 
-pub fits-prepare : {me n : ℕ} {l : Ledger} {log : Log} (s : FieldsStand me n l log) (e : Entry) → ((((l.is_live && not l.is_suspended) && e.epoch == l.known.epoch) && has l.known.members e.stamp.origin) && is_newest e l.logged) ≡ fits me n log (Rec.Prepare e)
+pub fits-prepare : {me n : ℕ} {l : Ledger} {log : Log} (s : FieldsStand me n l log) (e : Entry) → ((((l.is_live && not l.is_suspended) && e.epoch == l.known.epoch) && has l.known.members e.stamp.origin) && is_newest e (logged log)) ≡ fits me n log (Rec.Prepare e)
 unfolding fits active
-fits-prepare {n = n} {log = log} s e = rw (live-is s, suspended-is s, known-is s, known-epoch n log, known-members n log, logged-is s)
+fits-prepare {n = n} {log = log} s e = rw (live-is s, suspended-is s, known-is s, known-epoch n log, known-members n log)
 
-pub fits-commit : {me n : ℕ} {l : Ledger} {log : Log} (s : FieldsStand me n l log) (t : Stamp) (last : Option Stamp) → last ≡ last_stamp log → ((l.is_live && not l.is_suspended) && option_map_or (λ e. stamp_eq e.stamp t) (first_of (above last l.logged)) false) ≡ fits me n log (Rec.Commit t)
+pub fits-commit : {me n : ℕ} {l : Ledger} {log : Log} (s : FieldsStand me n l log) (t : Stamp) (last : Option Stamp) → last ≡ last_stamp log → ((l.is_live && not l.is_suspended) && option_map_or (λ e. stamp_eq e.stamp t) (first_of (above last (logged log))) false) ≡ fits me n log (Rec.Commit t)
 unfolding fits active unexecuted
-fits-commit s t last is = rw (live-is s, suspended-is s, is, logged-is s)
+fits-commit s t last is = rw (live-is s, suspended-is s, is)
 
 pub fits-adopt : {me n : ℕ} {l : Ledger} {log : Log} (s : FieldsStand me n l log) (place : ℕ) (es : List Entry) → ((((nat_lt 0 l.boots && place == length (executed log)) && list_all (λ e. nat_le e.epoch l.known.epoch) es) && goes_on_behind (position_of (executed log)) es) && (not l.is_live || l.is_suspended)) ≡ fits me n log (Rec.Adopt place es)
 unfolding fits booted

@@ -13,11 +13,14 @@ use Rattle.crsm_spec.specs.Fits.{fits, booted}
 use Rattle.crsm_spec.specs.Lines.{lines_of, exec_line, exec_lines}
 use Rattle.crsm_ledger.specs.declared.ledger.Ledger.{Ledger}
 use Rattle.crsm_ledger.specs.declared.history.History.{History}
-use Rattle.crsm_ledger.specs.Executed.{HistoryStands}
+use Rattle.crsm_ledger.specs.Executed.{HistoryStands, last_stamp_in}
 use Rattle.crsm_ledger.specs.Ledger.{FieldsStand}
+use Rattle.crsm_ledger.specs.Sorted.{AreKeptFor}
+use Rattle.crsm_ledger.specs.declared.kept.LoggedItem.{LoggedItem}
 use Rattle.crsm_fact_log.proofs.Lists.{all_more}
 use Rattle.crsm_ledger.proofs.LoggedLemmas.{with_entry-all}
-use Rattle.crsm_ledger.proofs.ReadLemmas.{me-is, boots-is, logged-is}
+use Rattle.crsm_ledger.proofs.ExecutedLemmas.{last_stamp-in}
+use Rattle.crsm_ledger.proofs.ReadLemmas.{me-is, boots-is}
 use Rattle.crsm_ledger.proofs.StepLemmas.{says-decide, says-prepare, says-commit, says-adopt, committed}
 
 -- ---- what a condition says
@@ -157,22 +160,21 @@ lines-adopt {log = log} s place es = ap (λ (k : ℕ). exec_lines k (executed lo
 
 -- ---- fields
 
-pub decides : {me n : ℕ} {l : Ledger} {log : Log} (s : FieldsStand me n l log) (d known' : Decision) (start' : ℕ) (logged' : List Entry) (h : History) → fits me n log (Rec.Decide d) ≡ true → known' ≡ d → start' ≡ d.base_len + length d.tail → logged' ≡ [] → HistoryStands h d.epoch (executed log) → FieldsStand me n (record l { known = known'; start = start'; is_live = false; is_suspended = false; has_entered = false; promised = no_ballot; accepted = None; logged = logged'; history = h }) (Rec.Decide d ∷ log)
+pub decides : {me n : ℕ} {l : Ledger} {log : Log} (s : FieldsStand me n l log) (d known' : Decision) (start' : ℕ) (logged' : List LoggedItem) (h : History) → fits me n log (Rec.Decide d) ≡ true → known' ≡ d → start' ≡ d.base_len + length d.tail → logged' ≡ [] → HistoryStands h d.epoch (executed log) → FieldsStand me n (record l { known = known'; start = start'; is_live = false; is_suspended = false; has_entered = false; promised = no_ballot; accepted = None; logged = logged'; history = h }) (Rec.Decide d ∷ log)
 decides {me} {n} {l} {log} s d known' start' logged' h fit is start_is none begun =
-    rw (is, start_is, none) (says-decide s d h (decide-later me n log d fit) begun)
+    rw (is, start_is) (says-decide s d h logged' (decide-later me n log d fit) begun none)
 
 pub all_earlier : {me n : ℕ} {l : Ledger} {log : Log} (s : FieldsStand me n l log) (d : Decision) → fits me n log (Rec.Decide d) ≡ true → AllByRecursion (λ e. e.epoch < d.epoch) (executed log)
 all_earlier {me} {n} {l} {log} s d fit =
     let later : known log < d.epoch = decide-later me n log d fit in
     all_more (λ e. e.epoch ≤ known log) (λ e. e.epoch < d.epoch) (λ e below. omega (arith, later, below)) (executed log) s.none_above.executed
 
-pub prepares : {me n : ℕ} {l : Ledger} {log : Log} (s : FieldsStand me n l log) (e copy : Entry) (logged' : List Entry) → fits me n log (Rec.Prepare e) ≡ true → copy ≡ e → logged' ≡ with_entry copy l.logged → FieldsStand me n (record l { logged = logged' }) (Rec.Prepare e ∷ log)
-prepares {me} {n} {l} {log} s e copy logged' fit same is =
-    rw (is, same) (says-prepare s e (prepare-known me n log e fit))
+pub prepares : {me n : ℕ} {l : Ledger} {log : Log} (s : FieldsStand me n l log) (e : Entry) (logged' : List LoggedItem) → fits me n log (Rec.Prepare e) ≡ true → AreKeptFor (executed log) logged' (with_entry e (logged log)) → FieldsStand me n (record l { logged = logged' }) (Rec.Prepare e ∷ log)
+prepares {me} {n} {l} {log} s e logged' fit kept = says-prepare s e logged' (prepare-known me n log e fit) kept
 
-pub commits : {me n : ℕ} {l : Ledger} {log : Log} (s : FieldsStand me n l log) (t : Stamp) (e : Entry) (h : History) → fits me n log (Rec.Commit t) ≡ true → first_of (unexecuted log) ≡ Some e → HistoryStands h (known log) (executed log ++ e ∷ []) → FieldsStand me n (record l { history = h }) (Rec.Commit t ∷ log)
-commits {me} {n} {l} {log} s t e h fit first done =
-    says-commit s t e h first (commit-same me n log t e fit first) (unexecuted-epoch log e first) done
+pub commits : {me n : ℕ} {l : Ledger} {log : Log} (s : FieldsStand me n l log) (t : Stamp) (e : Entry) (h : History) (logged' : List LoggedItem) → fits me n log (Rec.Commit t) ≡ true → first_of (unexecuted log) ≡ Some e → HistoryStands h (known log) (executed log ++ e ∷ []) → AreKeptFor (executed log ++ e ∷ []) logged' (logged log) → FieldsStand me n (record l { logged = logged'; history = h }) (Rec.Commit t ∷ log)
+commits {me} {n} {l} {log} s t e h logged' fit first done kept =
+    says-commit s t e h logged' first (commit-same me n log t e fit first) (unexecuted-epoch log e first) done kept
 
 pub adopts : {me n : ℕ} {l : Ledger} {log : Log} (s : FieldsStand me n l log) (place : ℕ) (es : List Entry) (h : History) → fits me n log (Rec.Adopt place es) ≡ true → HistoryStands h (known log) (executed log ++ es) → FieldsStand me n (record l { history = h }) (Rec.Adopt place es ∷ log)
 adopts {me} {n} {l} {log} s place es h fit done = says-adopt s place es h (adopt-known me n log place es fit) done
@@ -180,7 +182,7 @@ adopts {me} {n} {l} {log} s place es h fit done = says-adopt s place es h (adopt
 pub commit-entry : (me n : ℕ) (log : Log) (t : Stamp) (e : Entry) → fits me n log (Rec.Commit t) ≡ true → first_of (unexecuted log) ≡ Some e → entry_of log t ≡ Some e
 commit-entry me n log t e fit first = committed log t e first (commit-same me n log t e fit first)
 
--- the waiting entries, by the fields
-pub waiting-is : {me n : ℕ} {l : Ledger} {log : Log} (s : FieldsStand me n l log) (last : Option Stamp) → last ≡ last_stamp log → above last l.logged ≡ unexecuted log
+-- the first entry above the last executed one
+pub next-is : (log : Log) → first_of (above (last_stamp_in (known log) (executed log)) (logged log)) ≡ first_of (unexecuted log)
 unfolding unexecuted
-waiting-is s last is = rw (is, logged-is s)
+next-is log = ap (λ (last : Option Stamp). first_of (above last (logged log))) (last_stamp-in log)

@@ -1,10 +1,11 @@
 -- The bytes of ranges stay when chunks grow.
-use Rattle.std.proofs.Common.{◌≡◌, ℕ, suc, zero, ◌<◌, ◌≤◌, ◌+◌, List, [], ◌∷◌, ◌++◌, refl, ap, sym, ◌∙◌, arith, length, get_or, set, length-append, subst}
+use Rattle.std.proofs.Common.{◌≡◌, ℕ, suc, zero, ◌<◌, ◌≤◌, ◌+◌, ◌-◌, List, [], ◌∷◌, ◌++◌, refl, ap, sym, ◌∙◌, arith, length, get_or, set, length-append, subst}
 use Rattle.std.specs.Prelude.{slice_range, slice_get, Some, None}
 use Rattle.std.specs.List.{AllByRecursion}
 use Rattle.crsm_fact_log.proofs.Lists.{all_got, all-push, get_or-grown, get_or-set, at_set, length-set, range-grown, range-end}
 use Rattle.crsm_ledger.specs.declared.spelt.SpellingRange.{SpellingRange}
-use Rattle.crsm_ledger.specs.Pieces.{piece, pieces, AreSpelt, IsSpelling, IsWithin, Keeps}
+use Rattle.crsm_ledger.specs.Pieces.{piece, pieces, AreSpelt, HasOpenChunk, IsSpelling, IsWithin, Keeps}
+use Rattle.crsm_base.proofs.Sizes.{entry_short}
 
 -- ---- chunks
 
@@ -22,10 +23,9 @@ pub keeps-push : (chunks : List (List ℕ)) (chunk : List ℕ) → Keeps chunks 
 keeps-push chunks chunk = record {
   within = λ p w. record {
     chunk = omega (arith, w.chunk, length-append chunks (chunk ∷ []));
-    order = w.order;
     end = rw (get_or-grown chunks (chunk ∷ []) p.chunk [] w.chunk) w.end;
   };
-  same = λ p w. ap (λ c. slice_range c p.start p.end) (get_or-grown chunks (chunk ∷ []) p.chunk [] w.chunk);
+  same = λ p w. ap (λ c. slice_range c p.start (p.start + p.size)) (get_or-grown chunks (chunk ∷ []) p.chunk [] w.chunk);
 }
 
 -- more bytes in a chunk
@@ -33,28 +33,42 @@ pub keeps-set : (chunks : List (List ℕ)) (i : ℕ) (bytes : List ℕ) → i < 
 keeps-set chunks i bytes within = record {
   within = λ p w. record {
     chunk = omega (arith, w.chunk, length-set chunks i (get_or chunks i [] ++ bytes));
-    order = w.order;
-    end = at_set (λ c. p.end ≤ length c) chunks i p.chunk (get_or chunks i [] ++ bytes) [] within w.chunk
-        (λ is. let here : p.end ≤ length (get_or chunks i []) = subst (λ (k : ℕ). p.end ≤ length (get_or chunks k [])) is w.end in omega (arith, here, length-append (get_or chunks i []) bytes))
+    end = at_set (λ c. (p.start + p.size) ≤ length c) chunks i p.chunk (get_or chunks i [] ++ bytes) [] within w.chunk
+        (λ is. let here : (p.start + p.size) ≤ length (get_or chunks i []) = subst (λ (k : ℕ). (p.start + p.size) ≤ length (get_or chunks k [])) is w.end in omega (arith, here, length-append (get_or chunks i []) bytes))
         w.end;
   };
-  same = λ p w. at_set (λ c. slice_range c p.start p.end ≡ piece chunks p) chunks i p.chunk (get_or chunks i [] ++ bytes) [] within w.chunk
-      (λ is. let here : p.end ≤ length (get_or chunks i []) = subst (λ (k : ℕ). p.end ≤ length (get_or chunks k [])) is w.end in
-      range-grown (get_or chunks i []) bytes p.start p.end w.order here ∙ ap (λ k. slice_range (get_or chunks k []) p.start p.end) (sym is))
+  same = λ p w. at_set (λ c. slice_range c p.start (p.start + p.size) ≡ piece chunks p) chunks i p.chunk (get_or chunks i [] ++ bytes) [] within w.chunk
+      (λ is. let here : (p.start + p.size) ≤ length (get_or chunks i []) = subst (λ (k : ℕ). (p.start + p.size) ≤ length (get_or chunks k [])) is w.end in
+      range-grown (get_or chunks i []) bytes p.start (p.start + p.size) (omega arith) here ∙ ap (λ k. slice_range (get_or chunks k []) p.start (p.start + p.size)) (sym is))
       refl;
 }
 
 -- the new bytes stand at the end of the chunk
-pub within-set : (chunks : List (List ℕ)) (i start end : ℕ) (bytes : List ℕ) → i < length chunks → start ≡ length (get_or chunks i []) → end ≡ start + length bytes → IsWithin (set chunks i (get_or chunks i [] ++ bytes)) (record { chunk = i; start = start; end = end })
-within-set chunks i start end bytes within begins ends = record {
+pub within-set : (chunks : List (List ℕ)) (i start size : ℕ) (bytes : List ℕ) → i < length chunks → start ≡ length (get_or chunks i []) → size ≡ length bytes → IsWithin (set chunks i (get_or chunks i [] ++ bytes)) (record { chunk = i; start = start; size = size })
+within-set chunks i start size bytes within begins long = record {
   chunk = omega (arith, within, length-set chunks i (get_or chunks i [] ++ bytes));
-  order = omega arith;
-  end = rw (get_or-set chunks i (get_or chunks i [] ++ bytes) [] within) (omega (arith, begins, ends, length-append (get_or chunks i []) bytes));
+  end = rw (get_or-set chunks i (get_or chunks i [] ++ bytes) [] within) (omega (arith, begins, long, length-append (get_or chunks i []) bytes));
 }
 
-pub piece-set : (chunks : List (List ℕ)) (i start end : ℕ) (bytes : List ℕ) → i < length chunks → start ≡ length (get_or chunks i []) → end ≡ start + length bytes → piece (set chunks i (get_or chunks i [] ++ bytes)) (record { chunk = i; start = start; end = end }) ≡ bytes
-piece-set chunks i start end bytes within begins ends =
-    rw (get_or-set chunks i (get_or chunks i [] ++ bytes) [] within, ends, begins) (range-end (get_or chunks i []) bytes)
+pub piece-set : (chunks : List (List ℕ)) (i start size : ℕ) (bytes : List ℕ) → i < length chunks → start ≡ length (get_or chunks i []) → size ≡ length bytes → piece (set chunks i (get_or chunks i [] ++ bytes)) (record { chunk = i; start = start; size = size }) ≡ bytes
+piece-set chunks i start size bytes within begins long =
+    rw (get_or-set chunks i (get_or chunks i [] ++ bytes) [] within, long, begins) (range-end (get_or chunks i []) bytes)
+
+-- a chunk that was begun is open
+pub open-push : (chunks : List (List ℕ)) (chunk : List ℕ) → chunk ≡ [] → HasOpenChunk (chunks ++ chunk ∷ [])
+open-push chunks chunk none =
+    let count : length (chunks ++ chunk ∷ []) ≡ length chunks + 1 = length-append chunks (chunk ∷ []) in
+    let last : length (chunks ++ chunk ∷ []) - 1 ≡ length chunks = omega (arith, count) in record {
+      some = omega (arith, count);
+      most = rw (last, at_end chunks chunk, none) (omega arith);
+    }
+  where
+    at_end : (cs : List (List ℕ)) (c : List ℕ) → get_or (cs ++ c ∷ []) (length cs) [] ≡ c
+    at_end [] c = refl
+    at_end (d ∷ cs) c = at_end cs c
+
+pub spelling_short : (bytes : List ℕ) → IsSpelling bytes → length bytes ≤ 1129
+spelling_short bytes s = omega (arith, ap length s.is, entry_short s.entry s.fits)
 
 -- ---- all places
 
@@ -113,4 +127,4 @@ spelling_at [] i bytes all is = cc
 spelling_at (s ∷ ss) zero bytes all is = let same : s ≡ bytes = cc in subst IsSpelling same all.0
 spelling_at (s ∷ ss) (suc i) bytes all is = spelling_at ss i bytes all.1 is
 
-pub ruleset pieces_rules = (keeps-refl, keeps-push, keeps-set, within-set, piece-set, length-pieces, pieces-at, pieces-beyond, all_got)
+pub ruleset pieces_rules = (keeps-refl, keeps-push, keeps-set, within-set, piece-set, open-push, length-pieces, pieces-at, pieces-beyond, all_got)

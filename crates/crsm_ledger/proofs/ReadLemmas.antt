@@ -2,7 +2,7 @@
 use Rattle.std.proofs.Common.{◌≡◌, ℕ, ap}
 use Rattle.std.specs.Prelude.{unwrap_or}
 use Rattle.crsm_spec.specs.Lists.{numbers_below}
-use Rattle.crsm_spec.specs.Log.{Log, known, start, spec, boots, live, suspended, has_entered, promised, accepted, logged}
+use Rattle.crsm_spec.specs.Log.{Log, known, start, spec, boots, live, suspended, has_entered, promised, accepted}
 use Rattle.crsm_ledger.specs.declared.ledger.Ledger.{Ledger}
 use Rattle.crsm_fact_log.proofs.Known.{known-spec}
 use Rattle.crsm_ledger.specs.Ledger.{FieldsStand, facts_of, known_decision}
@@ -50,10 +50,6 @@ promised-is s = ap (λ f. f.promised) s.facts
 pub accepted-is : {me n : ℕ} {l : Ledger} {log : Log} → FieldsStand me n l log → l.accepted ≡ accepted log
 unfolding facts_of
 accepted-is s = ap (λ f. f.accepted) s.facts
-
-pub logged-is : {me n : ℕ} {l : Ledger} {log : Log} → FieldsStand me n l log → l.logged ≡ logged log
-unfolding facts_of
-logged-is s = ap (λ f. f.logged) s.facts
 
 -- ---- what the decision of the known epoch says
 

@@ -13,7 +13,9 @@ use Rattle.crsm_ledger.specs.declared.history.History.{History}
 use Rattle.crsm_ledger.specs.Executed.{HistoryStands}
 use Rattle.crsm_ledger.specs.Ledger.{Facts, FieldsStand, facts_of, fields_of, known_decision}
 use Rattle.crsm_fact_log.proofs.Lists.{all-push, all-append, all_more}
-use Rattle.crsm_ledger.proofs.LoggedLemmas.{stamp_eq-same, find-above}
+use Rattle.crsm_ledger.proofs.LoggedLemmas.{stamp_eq-same, find-above, kept-more}
+use Rattle.crsm_ledger.specs.Sorted.{AreKeptFor}
+use Rattle.crsm_ledger.specs.declared.kept.LoggedItem.{LoggedItem}
 
 -- ---- boots
 
@@ -35,6 +37,7 @@ says-boot {me} {n} {l} {log} s m k = record {
   facts = ap (λ (f : Facts). record f { boots = f.boots + 1; live = false }) s.facts
       ∙ ap (λ (b : ℕ). record (facts_of me n log) { boots = b; live = false }) (sym (boots-boot m k log));
   executed = s.executed;
+  kept = s.kept;
   none_above = record { logged = s.none_above.logged; entered = s.none_above.entered; executed = s.none_above.executed };
 }
 
@@ -45,6 +48,7 @@ says-suspend {me} {n} {l} {log} s x = record {
   facts = ap (λ (f : Facts). record f { suspended = true }) s.facts
       ∙ ap (λ (b : ℕ). record (facts_of me n log) { suspended = true; boots = b }) (sym (boots-other (Rec.Suspend x) log refl));
   executed = s.executed;
+  kept = s.kept;
   none_above = record { logged = s.none_above.logged; entered = s.none_above.entered; executed = s.none_above.executed };
 }
 
@@ -55,6 +59,7 @@ says-promise {me} {n} {l} {log} s i b = record {
   facts = ap (λ (f : Facts). record f { promised = b }) s.facts
       ∙ ap (λ (count : ℕ). record (facts_of me n log) { promised = b; boots = count }) (sym (boots-other (Rec.Promise i b) log refl));
   executed = s.executed;
+  kept = s.kept;
   none_above = record { logged = s.none_above.logged; entered = s.none_above.entered; executed = s.none_above.executed };
 }
 
@@ -65,6 +70,7 @@ says-accept {me} {n} {l} {log} s i b d = record {
   facts = ap (λ (f : Facts). record f { promised = b; accepted = Some (b, d) }) s.facts
       ∙ ap (λ (count : ℕ). record (facts_of me n log) { promised = b; accepted = Some (b, d); boots = count }) (sym (boots-other (Rec.Accept i b d) log refl));
   executed = s.executed;
+  kept = s.kept;
   none_above = record { logged = s.none_above.logged; entered = s.none_above.entered; executed = s.none_above.executed };
 }
 
@@ -82,6 +88,7 @@ says-enter {me} {n} {l} {log} s x is = record {
       ∙ ap (λ (count : ℕ). record (facts_of me n log) { live = true; entered = true; boots = count }) (sym (boots-other (Rec.Enter x) log refl))
       ∙ ap (λ (same : Bool). record (facts_of me n log) { live = true; entered = same || has_entered (known log) log; boots = boots (Rec.Enter x ∷ log) }) (sym (eqb-true x (known log) is));
   executed = s.executed;
+  kept = s.kept;
   none_above = record {
     logged = s.none_above.logged;
     entered = λ y after. rw (eqb-false x y (let below : known log < y = after in omega (arith, is, below))) (s.none_above.entered y after);
@@ -89,15 +96,15 @@ says-enter {me} {n} {l} {log} s x is = record {
   };
 }
 
-pub says-decide : {me n : ℕ} {l : Ledger} {log : Log} (s : FieldsStand me n l log) (d : Decision) (h : History) → known log < d.epoch → HistoryStands h d.epoch (executed log) → FieldsStand me n (record l { known = d; start = d.base_len + length d.tail; is_live = false; is_suspended = false; has_entered = false; promised = no_ballot; accepted = None; logged = []; history = h }) (Rec.Decide d ∷ log)
+pub says-decide : {me n : ℕ} {l : Ledger} {log : Log} (s : FieldsStand me n l log) (d : Decision) (h : History) (items : List LoggedItem) → known log < d.epoch → HistoryStands h d.epoch (executed log) → items ≡ [] → FieldsStand me n (record l { known = d; start = d.base_len + length d.tail; is_live = false; is_suspended = false; has_entered = false; promised = no_ballot; accepted = None; logged = items; history = h }) (Rec.Decide d ∷ log)
 unfolding facts_of is_boot known known_decision decision start live suspended has_entered promised accepted logged logged_in executed is_enter
-says-decide {me} {n} {l} {log} s d h after begun = record {
+says-decide {me} {n} {l} {log} s d h items after begun none = record {
   few = s.few;
-  facts = ap (λ (f : Facts). record f { known = d; start = d.base_len + length d.tail; live = false; suspended = false; entered = false; promised = no_ballot; accepted = None; logged = [] }) s.facts
-      ∙ ap (λ (count : ℕ). record (facts_of me n log) { known = d; start = d.base_len + length d.tail; live = false; suspended = false; entered = false; promised = no_ballot; accepted = None; logged = []; boots = count }) (sym (boots-other (Rec.Decide d) log refl))
-      ∙ ap (λ (entered : Bool). record (facts_of me n log) { known = d; start = d.base_len + length d.tail; live = false; suspended = false; entered = entered; promised = no_ballot; accepted = None; logged = []; boots = boots (Rec.Decide d ∷ log) }) (sym (s.none_above.entered d.epoch after))
-      ∙ ap (λ (logged : List Entry). record (facts_of me n log) { known = d; start = d.base_len + length d.tail; live = false; suspended = false; entered = has_entered d.epoch log; promised = no_ballot; accepted = None; logged = logged; boots = boots (Rec.Decide d ∷ log) }) (sym (s.none_above.logged d.epoch after));
+  facts = ap (λ (f : Facts). record f { known = d; start = d.base_len + length d.tail; live = false; suspended = false; entered = false; promised = no_ballot; accepted = None }) s.facts
+      ∙ ap (λ (count : ℕ). record (facts_of me n log) { known = d; start = d.base_len + length d.tail; live = false; suspended = false; entered = false; promised = no_ballot; accepted = None; boots = count }) (sym (boots-other (Rec.Decide d) log refl))
+      ∙ ap (λ (entered : Bool). record (facts_of me n log) { known = d; start = d.base_len + length d.tail; live = false; suspended = false; entered = entered; promised = no_ballot; accepted = None; boots = boots (Rec.Decide d ∷ log) }) (sym (s.none_above.entered d.epoch after));
   executed = begun;
+  kept = subst (λ (es : List Entry). AreKeptFor (executed log) items es) (sym (s.none_above.logged d.epoch after)) (subst (λ (is : List LoggedItem). AreKeptFor (executed log) is []) (sym none) tt);
   none_above = record {
     logged = λ y later. s.none_above.logged y (let more : d.epoch < y = later in omega (arith, after, more));
     entered = λ y later. s.none_above.entered y (let more : d.epoch < y = later in omega (arith, after, more));
@@ -107,14 +114,13 @@ says-decide {me} {n} {l} {log} s d h after begun = record {
 
 -- ---- records that name entries
 
-pub says-prepare : {me n : ℕ} {l : Ledger} {log : Log} (s : FieldsStand me n l log) (e : Entry) → e.epoch ≡ known log → FieldsStand me n (record l { logged = with_entry e l.logged }) (Rec.Prepare e ∷ log)
+pub says-prepare : {me n : ℕ} {l : Ledger} {log : Log} (s : FieldsStand me n l log) (e : Entry) (items : List LoggedItem) → e.epoch ≡ known log → AreKeptFor (executed log) items (with_entry e (logged log)) → FieldsStand me n (record l { logged = items }) (Rec.Prepare e ∷ log)
 unfolding facts_of is_boot known known_decision decision start live suspended has_entered promised accepted logged logged_in executed is_enter
-says-prepare {me} {n} {l} {log} s e is = record {
+says-prepare {me} {n} {l} {log} s e items is kept = record {
   few = s.few;
-  facts = ap (λ (f : Facts). record f { logged = with_entry e f.logged }) s.facts
-      ∙ ap (λ (count : ℕ). record (facts_of me n log) { logged = with_entry e (logged log); boots = count }) (sym (boots-other (Rec.Prepare e) log refl))
-      ∙ ap (λ (same : Bool). record (facts_of me n log) { logged = if same then with_entry e (logged log) else logged log; boots = boots (Rec.Prepare e ∷ log) }) (sym (eqb-true e.epoch (known log) is));
+  facts = s.facts ∙ ap (λ (count : ℕ). record (facts_of me n log) { boots = count }) (sym (boots-other (Rec.Prepare e) log refl));
   executed = s.executed;
+  kept = subst (λ (same : Bool). AreKeptFor (executed log) items (if same then with_entry e (logged log) else logged log)) (sym (eqb-true e.epoch (known log) is)) kept;
   none_above = record {
     logged = λ y after. rw (eqb-false e.epoch y (let below : known log < y = after in omega (arith, is, below))) (s.none_above.logged y after);
     entered = s.none_above.entered;
@@ -129,12 +135,13 @@ committed log t e next same =
     subst (λ (u : Stamp). find (λ f. stamp_eq f.stamp u) (logged log) ≡ Some e) (stamp_eq-same e.stamp t same)
     (find-above (last_stamp log) (logged log) e next)
 
-pub says-commit : {me n : ℕ} {l : Ledger} {log : Log} (s : FieldsStand me n l log) (t : Stamp) (e : Entry) (h : History) → first_of (unexecuted log) ≡ Some e → stamp_eq e.stamp t ≡ true → e.epoch ≡ known log → HistoryStands h (known log) (executed log ++ e ∷ []) → FieldsStand me n (record l { history = h }) (Rec.Commit t ∷ log)
+pub says-commit : {me n : ℕ} {l : Ledger} {log : Log} (s : FieldsStand me n l log) (t : Stamp) (e : Entry) (h : History) (items : List LoggedItem) → first_of (unexecuted log) ≡ Some e → stamp_eq e.stamp t ≡ true → e.epoch ≡ known log → HistoryStands h (known log) (executed log ++ e ∷ []) → AreKeptFor (executed log ++ e ∷ []) items (logged log) → FieldsStand me n (record l { logged = items; history = h }) (Rec.Commit t ∷ log)
 unfolding facts_of is_boot known known_decision decision start live suspended has_entered promised accepted logged logged_in executed is_enter
-says-commit {me} {n} {l} {log} s t e h next same of_known done = record {
+says-commit {me} {n} {l} {log} s t e h items next same of_known done kept = record {
   few = s.few;
   facts = s.facts ∙ ap (λ (count : ℕ). record (facts_of me n log) { boots = count }) (sym (boots-other (Rec.Commit t) log refl));
   executed = rw (committed log t e next same) done;
+  kept = rw (committed log t e next same) kept;
   none_above = record {
     logged = s.none_above.logged;
     entered = s.none_above.entered;
@@ -148,6 +155,7 @@ says-adopt {me} {n} {l} {log} s place es h below done = record {
   few = s.few;
   facts = s.facts ∙ ap (λ (count : ℕ). record (facts_of me n log) { boots = count }) (sym (boots-other (Rec.Adopt place es) log refl));
   executed = done;
+  kept = kept-more (executed log) es l.logged (logged log) s.kept;
   none_above = record {
     logged = s.none_above.logged;
     entered = s.none_above.entered;
@@ -157,19 +165,19 @@ says-adopt {me} {n} {l} {log} s place es h below done = record {
 
 -- ---- no record
 
-pub says-nothing : (me n : ℕ) (l : Ledger) (founders members : List ℕ) (tail logged : List Entry) → n ≤ 15 → fields_of l ≡ record { me = me; n = n; founders = founders; boots = 0; known = record { epoch = 0; spec = None; members = members; base_len = 0; tail = tail }; start = 0; live = false; suspended = false; entered = false; promised = no_ballot; accepted = None; logged = logged } → founders ≡ numbers_below n → members ≡ numbers_below n → tail ≡ [] → logged ≡ [] → HistoryStands l.history 0 [] → FieldsStand me n l []
+pub says-nothing : (me n : ℕ) (l : Ledger) (founders members : List ℕ) (tail : List Entry) → n ≤ 15 → fields_of l ≡ record { me = me; n = n; founders = founders; boots = 0; known = record { epoch = 0; spec = None; members = members; base_len = 0; tail = tail }; start = 0; live = false; suspended = false; entered = false; promised = no_ballot; accepted = None } → founders ≡ numbers_below n → members ≡ numbers_below n → tail ≡ [] → l.logged ≡ [] → HistoryStands l.history 0 [] → FieldsStand me n l []
 unfolding facts_of boots known known_decision decision start live suspended has_entered promised accepted logged logged_in executed
-says-nothing me n l founders members tail entries few fields first all none nothing done = record {
+says-nothing me n l founders members tail few fields first all none nothing done = record {
   few = few;
   facts = fields
-      ∙ ap (λ (ks : List ℕ). record { me = me; n = n; founders = ks; boots = 0; known = record { epoch = 0; spec = None; members = members; base_len = 0; tail = tail }; start = 0; live = false; suspended = false; entered = false; promised = no_ballot; accepted = None; logged = entries }) first
-      ∙ ap (λ (ks : List ℕ). record { me = me; n = n; founders = numbers_below n; boots = 0; known = record { epoch = 0; spec = None; members = ks; base_len = 0; tail = tail }; start = 0; live = false; suspended = false; entered = false; promised = no_ballot; accepted = None; logged = entries }) all
-      ∙ ap (λ (es : List Entry). record { me = me; n = n; founders = numbers_below n; boots = 0; known = record { epoch = 0; spec = None; members = numbers_below n; base_len = 0; tail = es }; start = 0; live = false; suspended = false; entered = false; promised = no_ballot; accepted = None; logged = entries }) none
-      ∙ ap (λ (es : List Entry). record { me = me; n = n; founders = numbers_below n; boots = 0; known = record { epoch = 0; spec = None; members = numbers_below n; base_len = 0; tail = [] }; start = 0; live = false; suspended = false; entered = false; promised = no_ballot; accepted = None; logged = es }) nothing;
+      ∙ ap (λ (ks : List ℕ). record { me = me; n = n; founders = ks; boots = 0; known = record { epoch = 0; spec = None; members = members; base_len = 0; tail = tail }; start = 0; live = false; suspended = false; entered = false; promised = no_ballot; accepted = None }) first
+      ∙ ap (λ (ks : List ℕ). record { me = me; n = n; founders = numbers_below n; boots = 0; known = record { epoch = 0; spec = None; members = ks; base_len = 0; tail = tail }; start = 0; live = false; suspended = false; entered = false; promised = no_ballot; accepted = None }) all
+      ∙ ap (λ (es : List Entry). record { me = me; n = n; founders = numbers_below n; boots = 0; known = record { epoch = 0; spec = None; members = numbers_below n; base_len = 0; tail = es }; start = 0; live = false; suspended = false; entered = false; promised = no_ballot; accepted = None }) none;
   executed = done;
+  kept = subst (λ (is : List LoggedItem). AreKeptFor [] is []) (sym nothing) tt;
   none_above = record { logged = λ x after. refl; entered = λ x after. refl; executed = tt };
 }
 
 -- the mark of a spent ledger says nothing of the log
 pub says-marked : {me n : ℕ} {l : Ledger} {log : Log} → FieldsStand me n l log → (mark : Bool) → FieldsStand me n (record l { is_spent = mark }) log
-says-marked s mark = record { few = s.few; facts = s.facts; executed = s.executed; none_above = s.none_above }
+says-marked s mark = record { few = s.few; facts = s.facts; executed = s.executed; kept = s.kept; none_above = s.none_above }

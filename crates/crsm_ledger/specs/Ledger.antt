@@ -11,6 +11,7 @@ pub use Rattle.crsm_fact_log.specs.Known.{founding}
 unfoldable pub use Rattle.crsm_fact_log.specs.Known.{known_decision}
 use Rattle.crsm_ledger.specs.declared.ledger.Ledger.{Ledger}
 use Rattle.crsm_ledger.specs.Executed.{HistoryStands}
+use Rattle.crsm_ledger.specs.Sorted.{AreKeptFor}
 
 -- Of epochs above the known one nothing is logged, executed or entered.
 pub record NoneAbove (log : Log) : Type 0 where
@@ -31,7 +32,6 @@ pub record Facts : Type 0 where
   pub entered : Bool
   pub promised : Ballot
   pub accepted : Option (Ballot × Decision)
-  pub logged : List Entry
 
 -- the facts in the fields of a ledger
 abbrev pub fields_of : Ledger → Facts
@@ -47,7 +47,6 @@ fields_of l = record {
   entered = l.has_entered;
   promised = l.promised;
   accepted = l.accepted;
-  logged = l.logged;
 }
 
 -- the facts of the log of replica me, in a cluster that began with n
@@ -64,7 +63,6 @@ facts_of me n log = record {
   entered = has_entered (known log) log;
   promised = promised log;
   accepted = accepted log;
-  logged = logged log;
 }
 
 -- how many entries the ledger has executed
@@ -75,6 +73,7 @@ executed_count l = length l.history.spelt
 pub record FieldsStand (me n : ℕ) (ledger : Ledger) (log : Log) : Type 0 where
   pub few : n ≤ 15
   pub facts : fields_of ledger ≡ facts_of me n log
+  pub kept : AreKeptFor (executed log) ledger.logged (logged log)
   pub executed : HistoryStands ledger.history (known log) (executed log)
   pub none_above : NoneAbove log
 

@@ -5,9 +5,9 @@ ghost use Rattle.std.specs.Prelude.{◌≡◌, ◌==◌, ◌+◌, ◌≤◌, ℕ
 ghost use Rattle.std.specs.List.{list_all};
 ghost use Rattle.std.specs.Option.{option_map_or};
 ghost use Rattle.crsm_base.specs.declared.Rec.{Rec};
-ghost use Rattle.crsm_base.specs.Order.{stamp_lt, stamp_eq, ballot_lt};
+ghost use Rattle.crsm_base.specs.Order.{stamp_lt, ballot_lt};
 ghost use Rattle.crsm_spec.specs.Fits.{fits, can_be_members};
-ghost use Rattle.crsm_spec.specs.Lists.{first_of, numbers_below};
+ghost use Rattle.crsm_spec.specs.Lists.{numbers_below};
 ghost use Rattle.crsm_ledger.specs.Executed.{goes_on_behind};
 ghost use Rattle.crsm_ledger.specs.Ledger.{FieldsStand, WhereFieldsStand};
 
@@ -15,7 +15,7 @@ use crate::history::Position;
 use crate::ledger::Ledger;
 use crsm_base::{
     Ballot, Decision, Entry, Rec, Stamp, ballot_precedes, can_be_members, first_replicas, is_among,
-    is_same_stamp, stamp_precedes,
+    stamp_precedes,
 };
 
 impl Ledger {
@@ -61,7 +61,7 @@ impl Ledger {
     pub(crate) fn fits_commit(&self, stamp: Stamp) -> bool
         ensures { WhereFieldsStand self.now (λ me n log. result ≡ fits me n log (Rec.Commit stamp)) }
     {
-        let is_next = begins_with(self.logged.above(self.history.last_stamp()), stamp);
+        let is_next = self.logged.is_next(self.history.last_stamp(), stamp);
         self.is_live & !self.is_suspended & is_next
     }
 
@@ -112,17 +112,6 @@ impl Ledger {
         let is_member = is_among(self.known.members.as_slice(), self.me);
         let is_start = self.history.len() == self.start;
         (0 < self.boots) & (epoch == self.known.epoch) & is_member & is_start & !self.has_entered
-    }
-}
-
-/// Returns whether the first entry has this stamp.
-#[tactic(auto, unfolding(crsm_spec::specs::Lists::first_of))]
-fn begins_with(entries: &[Entry], stamp: Stamp) -> bool
-    ensures { result ≡ option_map_or (λ e. stamp_eq e.stamp stamp) (first_of entries.now) false }
-{
-    match entries {
-        [first, ..] => is_same_stamp(first.stamp, stamp),
-        [] => false,
     }
 }
 

@@ -28,10 +28,10 @@ impl Ledger {
         ensures mark { self.new.is_spent ≡ self.old.is_spent }
     {
         let mut lines = Lines::new(self.alloc);
-        let Some(entry) = self.logged.first_above(self.history.last_stamp()) else {
+        let Some(entry) = self.logged.release_next(&self.history)? else {
             return Ok(lines);
         };
-        self.history.execute(self.me, entry, &mut lines)?;
+        self.history.execute(self.me, &entry, &mut lines)?;
         Ok(lines)
     }
 

@@ -63,10 +63,10 @@ impl Ledger {
         ensures known { self.new.known ≡ self.old.known }
         ensures mark { self.new.is_spent ≡ self.old.is_spent }
     {
-        let Some(entry) = self.logged.first_above(self.history.last_stamp()) else {
+        let Some(entry) = self.logged.release_next(&self.history)? else {
             return Ok(());
         };
-        let _answer = self.history.run(entry)?;
+        let _answer = self.history.run(&entry)?;
         Ok(())
     }
 

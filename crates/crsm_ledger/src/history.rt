@@ -1,6 +1,6 @@
 //! The executed entries as bytes, the store that they lead to, and the last one.
 
-ghost use Rattle.std.specs.Prelude.{◌≡◌, ◌<◌, ◌^◌, ℕ, [], ◌∷◌, ◌++◌, List, length, slice_get, Some, IfOk, OnOk};
+ghost use Rattle.std.specs.Prelude.{◌≡◌, ◌<◌, ◌^◌, ℕ, [], ◌∷◌, ◌++◌, List, length, slice_get, Some, IfOk, IfSome, OnOk};
 ghost use Rattle.std.specs.List.{AllByRecursion};
 ghost use Rattle.std.specs.Option.{option_copied, option_map};
 ghost use Rattle.crsm_base.specs.declared.Entry.{Entry};
@@ -9,7 +9,9 @@ ghost use Rattle.crsm_base.specs.Store.{apply};
 ghost use Rattle.crsm_spec.specs.Lines.{exec_line, exec_lines};
 ghost use Rattle.crsm_ledger.specs.Executed.{HistoryStands, position_of, last_stamp_in};
 ghost use Rattle.crsm_ledger.specs.Pieces.{IsSpelling};
+ghost use Rattle.crsm_ledger.specs.Sorted.{FitsKept, IsKept};
 
+use crate::kept::Kept;
 use crate::spelt::Spelt;
 use crsm_base::{Answer, Bytes, Entry, Line, Lines, NoMemory, Stamp};
 use crsm_codec::read_entry;
@@ -98,10 +100,48 @@ impl History {
     /// Returns the executed entry with this index. `NoMemory` if memory runs out.
     pub fn entry(&self, place: u64) -> Result<Entry, NoMemory>
         requires { place < length self.now.spelt }
-        ensures { (x : ℕ) (es : List Entry) → HistoryStands self.now x es → IfOk result (λ e. slice_get es place ≡ Some e) }
+        ensures value { (x : ℕ) (es : List Entry) → HistoryStands self.now x es → IfOk result (λ e. slice_get es place ≡ Some e) }
+        ensures fit { IfOk result FitsEntry }
     {
         let entry = read_back(self.alloc, self.spelt.at(place as usize))?;
         Ok(entry)
+    }
+
+    /// Returns the executed entry with this index, or `None` if there are not that many. `NoMemory` if memory runs out.
+    #[tactic(auto, using(std::proofs::lemmas::Option::slice_get_past))]
+    pub fn executed(&self, place: u64) -> Result<Option<Entry>, NoMemory>
+        ensures value { (x : ℕ) (es : List Entry) → HistoryStands self.now x es → IfOk result (λ r. r ≡ slice_get es place) }
+        ensures fit { IfOk result (λ r. IfSome r FitsEntry) }
+    {
+        if place < self.len() {
+            Ok(Some(self.entry(place)?))
+        } else {
+            Ok(None)
+        }
+    }
+
+    /// Returns a copy of the logged entry of which this is kept, or `None` if it was to be executed and is not.
+    /// `NoMemory` if memory runs out.
+    pub fn copy(&self, kept: &Kept) -> Result<Option<Entry>, NoMemory>
+        ensures value { (x : ℕ) (es : List Entry) (e : Entry) → HistoryStands self.now x es → IsKept es kept.now e → IfOk result (λ r. r ≡ Some e) }
+        ensures fit { FitsKept kept.now → IfOk result (λ r. IfSome r FitsEntry) }
+    {
+        match kept {
+            Kept::Whole { entry } => Ok(Some(entry.copy(self.alloc)?)),
+            Kept::Executed { place } => self.executed(*place),
+        }
+    }
+
+    /// Returns the logged entry of which this is kept, or `None` if it was to be executed and is not. `NoMemory` if
+    /// memory runs out.
+    pub fn restore(&self, kept: Kept) -> Result<Option<Entry>, NoMemory>
+        ensures value { (x : ℕ) (es : List Entry) (e : Entry) → HistoryStands self.now x es → IsKept es kept e → IfOk result (λ r. r ≡ Some e) }
+        ensures fit { FitsKept kept → IfOk result (λ r. IfSome r FitsEntry) }
+    {
+        match kept {
+            Kept::Whole { entry } => Ok(Some(Box::into_inner(entry))),
+            Kept::Executed { place } => self.executed(place),
+        }
     }
 
     /// Executes an entry and appends its line. `NoMemory` if memory runs out.
@@ -173,7 +213,8 @@ impl History {
 /// Decodes an entry. `NoMemory` if memory runs out.
 fn read_back(alloc: Global, bytes: &[u8]) -> Result<Entry, NoMemory>
     requires { IsSpelling bytes.now }
-    ensures { (e : Entry) → FitsEntry e → bytes.now ≡ entry_bytes e → IfOk result (λ r. r ≡ e) }
+    ensures value { (e : Entry) → FitsEntry e → bytes.now ≡ entry_bytes e → IfOk result (λ r. r ≡ e) }
+    ensures fit { IfOk result FitsEntry }
 {
     match read_entry(alloc, bytes)? {
         Some((entry, _)) => Ok(entry),

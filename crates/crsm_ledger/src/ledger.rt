@@ -1,16 +1,15 @@
 //! The ledger of one replica: its fields, its readers, and how a record changes it.
 
-ghost use Rattle.std.specs.Prelude.{◌≡◌, ℕ, ◌≤◌, ◌<◌, ◌^◌, true, false, List, [], ◌∷◌, length, slice_get, Some, IfOk};
+ghost use Rattle.std.specs.Prelude.{◌≡◌, ℕ, ◌≤◌, ◌<◌, ◌^◌, true, false, List, [], ◌∷◌, length, slice_get, drop, Some, IfOk, IfSome};
 ghost use Rattle.std.specs.Option.{option_map, option_copied};
 ghost use Rattle.crsm_base.specs.declared.Rec.{Rec};
-ghost use Rattle.std.specs.List.{AllByRecursion};
 ghost use Rattle.crsm_base.specs.Spelling.{entry_bytes, FitsEntry};
 ghost use Rattle.crsm_base.specs.Members.{IsMembers};
 ghost use Rattle.crsm_base.specs.Records.{FitsRec};
 ghost use Rattle.crsm_spec.specs.Fits.{fits, goes_on};
 ghost use Rattle.crsm_spec.specs.Lines.{lines_of};
 ghost use Rattle.crsm_ledger.specs.Ledger.{executed_count, kind, WhereStands};
-ghost use Rattle.crsm_spec.specs.Log.{boots, start, live, suspended, executed, logged, unexecuted, last_stamp, promised, accepted, spec};
+ghost use Rattle.crsm_spec.specs.Log.{boots, start, live, suspended, executed, logged, above, unexecuted, last_stamp, promised, accepted, spec};
 
 use crate::checks::stands_behind;
 use crate::error::LedgerError;
@@ -149,15 +148,10 @@ impl Ledger {
 
     /// Returns the executed entry with this index, or `None` if the index is not below `executed_len`. `NoMemory` if
     /// memory runs out.
-    #[tactic(auto, using(std::proofs::lemmas::Option::slice_get_past))]
     pub fn executed(&self, place: u64) -> Result<Option<Entry>, NoMemory>
         ensures { WhereStands self.now (λ me n log. IfOk result (λ r. r ≡ slice_get (executed log) place)) }
     {
-        if place < self.executed_len() {
-            Ok(Some(self.executed_at(place)?))
-        } else {
-            Ok(None)
-        }
+        self.history.executed(place)
     }
 
     /// Returns the executed entry with this index, which is below `executed_len`. `NoMemory` if memory runs out.
@@ -184,21 +178,43 @@ impl Ledger {
         self.history.spelt(place)
     }
 
-    /// Returns the logged entries of the known epoch by ascending stamp.
-    pub fn logged(&self) -> &[Entry]
-        ensures value { WhereStands self.now (λ me n log. result.now ≡ logged log) }
-        ensures fit { AllByRecursion FitsEntry result.now }
+    /// Returns the number of logged entries of the known epoch.
+    pub fn logged_len(&self) -> usize
+        ensures { WhereStands self.now (λ me n log. result ≡ length (logged log)) }
     {
-        self.logged.as_slice()
+        self.logged.len()
     }
 
-    /// Returns the logged entries of the known epoch that are not executed, by ascending stamp.
-    #[tactic(auto, unfolding(crsm_spec::specs::Log::unexecuted))]
-    pub fn unexecuted(&self) -> &[Entry]
-        ensures value { WhereStands self.now (λ me n log. result.now ≡ unexecuted log) }
-        ensures fit { AllByRecursion FitsEntry result.now }
+    /// Returns the logged entry of the known epoch with this index, by ascending stamp, or `None` if there are not that
+    /// many. `NoMemory` if memory runs out.
+    pub fn logged_at(&self, index: usize) -> Result<Option<Entry>, NoMemory>
+        ensures value { WhereStands self.now (λ me n log. IfOk result (λ r. r ≡ slice_get (logged log) index)) }
+        ensures fit { IfOk result (λ r. IfSome r FitsEntry) }
     {
-        self.logged.above(self.history.last_stamp())
+        match self.logged.get(index) {
+            Some(item) => {
+                let entry = self.history.copy(&item.kept)?;
+                Ok(entry)
+            }
+            None => Ok(None),
+        }
+    }
+
+    /// Returns the index of the first logged entry of the known epoch above a stamp (at `None` of the first of all), or
+    /// their number if there is none.
+    pub fn first_above(&self, stamp: Option<Stamp>) -> usize
+        ensures { WhereStands self.now (λ me n log. drop result (logged log) ≡ above stamp (logged log)) }
+    {
+        self.logged.first_above(stamp)
+    }
+
+    /// Returns the number of logged entries of the known epoch that are not executed.
+    #[tactic(auto, unfolding(crsm_spec::specs::Log::unexecuted))]
+    pub fn unexecuted_len(&self) -> u64
+        ensures { WhereStands self.now (λ me n log. result ≡ length (unexecuted log)) }
+    {
+        let first = self.logged.first_above(self.history.last_stamp());
+        (self.logged.len() - first) as u64
     }
 
     /// Returns the stamp of the last executed entry of the known epoch, or `None` if there is none.

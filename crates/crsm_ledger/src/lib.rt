@@ -6,6 +6,7 @@ mod entries;
 mod error;
 mod follow;
 mod history;
+mod kept;
 mod ledger;
 mod logged;
 mod owner;

@@ -1,66 +1,81 @@
-//! The logged entries of one epoch by ascending stamp.
+//! The logged entries of one epoch by ascending stamp. Those that are executed stand in the history, and not here.
 
-ghost use Rattle.std.specs.Prelude.{◌≡◌, ◌<◌, ◌≤◌, ◌==◌, nat_lt, true, false, [], insert, length, get_or, not, IfSome, OnOk, OnErr};
-ghost use Rattle.std.specs.List.{list_any, AllByRecursion};
-ghost use Rattle.std.specs.Option.{option_copied};
+ghost use Rattle.std.specs.Prelude.{◌≡◌, ◌<◌, ◌≤◌, ◌==◌, nat_lt, true, false, ℕ, [], ◌∷◌, ◌++◌, List, insert, set, length, get_or, slice_get, drop, not, IfOk, IfSome, OnOk, OnErr};
+ghost use Rattle.std.specs.List.{list_any};
+ghost use Rattle.std.specs.Option.{option_copied, option_map_or};
 ghost use Rattle.std.specs.List.Sorted.{IsPartitionPoint};
 ghost use Rattle.crsm_base.specs.declared.Entry.{Entry};
-ghost use Rattle.crsm_base.specs.Order.{stamp_lt};
-ghost use Rattle.crsm_ledger.specs.Sorted.{IsLogged};
+ghost use Rattle.crsm_ledger.specs.declared.kept.LoggedItem.{LoggedItem};
+ghost use Rattle.crsm_base.specs.Order.{stamp_eq, stamp_lt};
+ghost use Rattle.crsm_ledger.specs.Executed.{HistoryStands, last_stamp_in};
+ghost use Rattle.crsm_ledger.specs.Sorted.{AreKeptFor, FitsKept, IsLogged, IsReleased, marked};
 ghost use Rattle.crsm_base.specs.Spelling.{FitsEntry};
 ghost use Rattle.crsm_spec.specs.Lists.{first_of};
 ghost use Rattle.crsm_spec.specs.Log.{with_entry, above};
 ghost use Rattle.crsm_spec.specs.Fits.{is_newest};
 
-use crsm_base::{Entry, NoMemory, Stamp, stamp_precedes};
+use crate::history::History;
+use crate::kept::{Kept, LoggedItem};
+use crsm_base::{Entry, NoMemory, Stamp, is_same_stamp, stamp_precedes};
 use std::alloc::Global;
 use std::marker::Model;
+use std::mem;
 
-/// A list of entries by ascending stamp.
+/// What is kept of each logged entry, by ascending stamp.
 #[derive(Drop)]
 pub struct Logged {
-    items: Vec<Entry>,
+    alloc: Global,
+    items: Vec<LoggedItem>,
 }
 
 impl Model for Logged {
     ghost use Rattle.std.specs.Prelude.{List};
-    ghost use Rattle.crsm_base.specs.declared.Entry.{Entry};
+    ghost use Rattle.crsm_ledger.specs.declared.kept.LoggedItem.{LoggedItem};
     ghost use Rattle.crsm_ledger.specs.Sorted.{IsLogged};
 
-    ghost Value = { List Entry };
+    ghost Value = { List LoggedItem };
 
     ghost view = { λ l. l.items.items };
 
     ghost invariant = { λ l. IsLogged l.items.items };
 }
 
+#[tactic(auto, using(crate::proofs::LoggedLemmas::logged_rules))]
 impl Logged {
     /// Returns the empty list.
     pub fn new(alloc: Global) -> Logged
         ensures { result ≡ [] }
     {
         Logged {
+            alloc,
             items: Vec::new(alloc),
         }
     }
 
-    /// Returns the entries by ascending stamp.
-    pub fn as_slice(&self) -> &[Entry]
-        ensures value { result.now ≡ self.now }
-        ensures fit { AllByRecursion FitsEntry result.now }
+    /// Returns the number of entries.
+    pub fn len(&self) -> usize
+        ensures { result ≡ length self.now }
     {
-        self.items.as_slice()
+        self.items.len()
     }
 
-    #[tactic(auto, using(crate::proofs::LoggedLemmas::logged_rules))]
+    /// Returns what is kept of the entry with this index, or `None` if there are not that many.
+    pub fn get(&self, index: usize) -> Option<&LoggedItem>
+        ensures value { option_copied result ≡ slice_get self.now index }
+        ensures fit { IfSome result (λ item. FitsKept item.now.kept) }
+    {
+        item_at(self.items.as_slice(), index)
+    }
+
     /// Inserts an entry by its stamp. `NoMemory` if memory runs out; the entries are then unchanged.
     pub fn insert(&mut self, entry: Entry) -> Result<(), NoMemory>
         requires { FitsEntry entry }
-        ensures ok { OnOk result (self.new ≡ with_entry entry self.old) }
+        ensures ok { (done es : List Entry) → AreKeptFor done self.old es → OnOk result (AreKeptFor done self.new (with_entry entry es)) }
         ensures err { OnErr result (self.new ≡ self.old) }
     {
-        let place = count_up_to(self.items.as_slice(), entry.stamp);
-        put_at(&mut self.items, place, entry)?;
+        let item = LoggedItem::of(self.alloc, entry)?;
+        let place = count_up_to(self.items.as_slice(), item.stamp);
+        put_at(&mut self.items, place, item)?;
         Ok(())
     }
 
@@ -71,71 +86,106 @@ impl Logged {
         self.items.clear();
     }
 
-    /// Returns the entries above a stamp, or all of them at `None`.
-    pub fn above(&self, stamp: Option<Stamp>) -> &[Entry]
-        ensures value { result.now ≡ above stamp self.now }
-        ensures fit { AllByRecursion FitsEntry result.now }
+    /// Returns the index of the first entry above a stamp (at `None` of the first of all), or the number of entries if
+    /// there is none.
+    pub fn first_above(&self, stamp: Option<Stamp>) -> usize
+        ensures bound { result ≤ length self.now }
+        ensures value { (done es : List Entry) → AreKeptFor done self.now es → drop result es ≡ above stamp es }
     {
-        entries_above(self.items.as_slice(), stamp)
+        count_to(self.items.as_slice(), stamp)
     }
 
-    /// Returns the first entry above a stamp (at `None` the first of all), or `None` if there is none.
-    pub fn first_above(&self, stamp: Option<Stamp>) -> Option<&Entry>
-        ensures value { option_copied result ≡ first_of (above stamp self.now) }
-        ensures fit { IfSome result (λ e. FitsEntry e.now) }
+    /// Returns whether the first entry above `last` (at `None` the first of all) has this stamp.
+    pub fn is_next(&self, last: Option<Stamp>, stamp: Stamp) -> bool
+        ensures { (done es : List Entry) → AreKeptFor done self.now es → result ≡ option_map_or (λ e. stamp_eq e.stamp stamp) (first_of (above last es)) false }
     {
-        first(entries_above(self.items.as_slice(), stamp))
+        has_stamp_at(self.items.as_slice(), self.first_above(last), stamp)
     }
 
     /// Returns whether each entry of the same origin has a smaller time.
     pub fn is_newest(&self, entry: &Entry) -> bool
-        ensures { result ≡ is_newest entry.now self.now }
+        ensures { (done es : List Entry) → AreKeptFor done self.now es → result ≡ is_newest entry.now es }
     {
         is_newest_of(self.items.as_slice(), entry)
     }
+
+    /// Marks the first entry above `last` (at `None` the first of all) as the executed one with this index, and returns
+    /// what was kept of it, or `None` if there is none.
+    pub fn release(&mut self, last: Option<Stamp>, place: u64) -> Option<Kept>
+        ensures released { IsReleased last place result self.old self.new }
+        ensures fit { IfSome result FitsKept }
+    {
+        let index = self.first_above(last);
+        if index < self.items.len() {
+            Some(mark_executed(&mut self.items, index, place))
+        } else {
+            None
+        }
+    }
+
+    /// Returns the first entry above the last executed one of the known epoch, which is to be executed next, and keeps
+    /// only its place. `None` if there is none. `NoMemory` if memory runs out; the entries are then unspecified.
+    pub fn release_next(&mut self, history: &History) -> Result<Option<Entry>, NoMemory>
+        ensures next { (x : ℕ) (done es : List Entry) → HistoryStands history.now x done → AreKeptFor done self.old es → IfOk result (λ r. r ≡ first_of (above (last_stamp_in x done) es)) }
+        ensures released { (x : ℕ) (done es : List Entry) → HistoryStands history.now x done → AreKeptFor done self.old es → IfOk result (λ r. IfSome r (λ e. AreKeptFor (done ++ e ∷ []) self.new es)) }
+        ensures fit { IfOk result (λ r. IfSome r FitsEntry) }
+    {
+        match self.release(history.last_stamp(), history.len()) {
+            Some(kept) => {
+                let entry = history.restore(kept)?;
+                Ok(entry)
+            }
+            None => Ok(None),
+        }
+    }
 }
 
-/// Inserts an entry at an index, which is nearly always the end. `NoMemory` changes nothing.
+fn item_at(items: &[LoggedItem], index: usize) -> Option<&LoggedItem>
+    requires { IsLogged items.now }
+    ensures value { option_copied result ≡ slice_get items.now index }
+    ensures fit { IfSome result (λ item. FitsKept item.now.kept) }
+{
+    items.get(index)
+}
+
+/// Inserts an item at an index, which is nearly always the end. `NoMemory` changes nothing.
 #[tactic(auto, using(std::proofs::lemmas::List::Edits::insert_end))]
-fn put_at(items: &mut Vec<Entry>, place: usize, entry: Entry) -> Result<(), NoMemory>
+fn put_at(items: &mut Vec<LoggedItem>, place: usize, item: LoggedItem) -> Result<(), NoMemory>
     requires { place ≤ length items.old.items }
-    ensures ok { OnOk result (items.new.items ≡ insert items.old.items place entry) }
+    ensures ok { OnOk result (items.new.items ≡ insert items.old.items place item) }
     ensures err { OnErr result (items.new.items ≡ items.old.items) }
 {
     if place == items.len() {
-        items.push(entry)?;
+        items.push(item)?;
     } else {
-        items.insert(place, entry)?;
+        items.insert(place, item)?;
     }
     Ok(())
 }
 
-#[tactic(auto, unfolding(crsm_spec::specs::Lists::first_of))]
-fn first(entries: &[Entry]) -> Option<&Entry>
-    requires { AllByRecursion FitsEntry entries.now }
-    ensures value { option_copied result ≡ first_of entries.now }
-    ensures fit { IfSome result (λ e. FitsEntry e.now) }
+/// Marks the item with this index as the executed entry with index `place`, and returns what was kept of it.
+fn mark_executed(items: &mut Vec<LoggedItem>, index: usize, place: u64) -> Kept
+    requires { index < length items.old.items }
+    ensures kept { (d : LoggedItem) → result ≡ (get_or items.old.items index d).kept }
+    ensures marked { (d : LoggedItem) → items.new.items ≡ set items.old.items index (marked (get_or items.old.items index d) place) }
 {
-    match entries {
-        [first, ..] => Some(first),
-        [] => None,
-    }
+    mem::replace(&mut items[index].kept, Kept::Executed { place })
 }
 
-/// Returns the number of entries with no greater stamp. These are nearly always all but a few at the end: so the search
+/// Returns the number of items with no greater stamp. These are nearly always all but a few at the end: so the search
 /// starts there, in doubled steps and then in halves.
-fn count_up_to(entries: &[Entry], stamp: Stamp) -> usize
-    requires { IsLogged entries.now }
-    ensures bound { result ≤ length entries.now }
-    ensures point { IsPartitionPoint (λ e. not (stamp_lt stamp e.stamp) ≡ true) (λ e. not (stamp_lt stamp e.stamp) ≡ false) entries.now result }
+fn count_up_to(items: &[LoggedItem], stamp: Stamp) -> usize
+    requires { IsLogged items.now }
+    ensures bound { result ≤ length items.now }
+    ensures point { IsPartitionPoint (λ i. not (stamp_lt stamp i.stamp) ≡ true) (λ i. not (stamp_lt stamp i.stamp) ≡ false) items.now result }
 {
     let mut low = 0;
-    let mut high = entries.len();
+    let mut high = items.len();
     let mut back: usize = 1;
     while low < high {
         let middle = middle_of(low, high, back);
         back = back.saturating_mul(2);
-        if is_above_at(entries, middle, stamp) {
+        if is_above_at(items, middle, stamp) {
             high = middle;
         } else {
             low = middle + 1;
@@ -153,58 +203,69 @@ fn middle_of(low: usize, high: usize, back: usize) -> usize
     high - 1 - back.min((high - low) / 2)
 }
 
-/// Returns whether the entry at this index has a greater stamp.
-fn is_above_at(entries: &[Entry], place: usize, stamp: Stamp) -> bool
-    requires { place < length entries.now }
-    ensures { (d : Entry) → result ≡ stamp_lt stamp (get_or entries.now place d).stamp }
+/// Returns whether the item at this index has a greater stamp.
+fn is_above_at(items: &[LoggedItem], place: usize, stamp: Stamp) -> bool
+    requires { place < length items.now }
+    ensures { (d : LoggedItem) → result ≡ stamp_lt stamp (get_or items.now place d).stamp }
 {
-    stamp_precedes(stamp, entries[place].stamp)
+    stamp_precedes(stamp, items[place].stamp)
 }
 
+/// Returns the number of items with no greater stamp, at `None` 0.
 #[tactic(auto, unfolding(crsm_spec::specs::Log::above))]
-fn entries_above(entries: &[Entry], stamp: Option<Stamp>) -> &[Entry]
-    requires { IsLogged entries.now }
-    ensures value { result.now ≡ above stamp entries.now }
-    ensures fit { AllByRecursion FitsEntry result.now }
+fn count_to(items: &[LoggedItem], stamp: Option<Stamp>) -> usize
+    requires { IsLogged items.now }
+    ensures bound { result ≤ length items.now }
+    ensures value { (done es : List Entry) → AreKeptFor done items.now es → drop result es ≡ above stamp es }
 {
     match stamp {
-        None => entries,
-        Some(stamp) => &entries[count_up_to(entries, stamp)..],
+        None => 0,
+        Some(stamp) => count_up_to(items, stamp),
     }
 }
 
-/// Returns the number of entries with a smaller time.
-fn count_before(entries: &[Entry], time: u64) -> usize
-    requires { IsLogged entries.now }
-    ensures bound { result ≤ length entries.now }
-    ensures point { IsPartitionPoint (λ e. nat_lt e.stamp.time time ≡ true) (λ e. nat_lt e.stamp.time time ≡ false) entries.now result }
+/// Returns whether there is an item at this index, and it has the stamp.
+fn has_stamp_at(items: &[LoggedItem], index: usize, stamp: Stamp) -> bool
+    ensures { result ≡ option_map_or (λ i. stamp_eq i.stamp stamp) (slice_get items.now index) false }
 {
-    let count = entries.len();
-    if count > 0 && is_before_at(entries, count - 1, time) {
+    match items.get(index) {
+        Some(item) => is_same_stamp(item.stamp, stamp),
+        None => false,
+    }
+}
+
+/// Returns the number of items with a smaller time.
+fn count_before(items: &[LoggedItem], time: u64) -> usize
+    requires { IsLogged items.now }
+    ensures bound { result ≤ length items.now }
+    ensures point { IsPartitionPoint (λ i. nat_lt i.stamp.time time ≡ true) (λ i. nat_lt i.stamp.time time ≡ false) items.now result }
+{
+    let count = items.len();
+    if count > 0 && is_before_at(items, count - 1, time) {
         // Nearly always all have.
         return count;
     }
-    entries.partition_point(|entry| entry.stamp.time < time)
+    items.partition_point(|item| item.stamp.time < time)
 }
 
-/// Returns whether the entry at this index has a smaller time.
-fn is_before_at(entries: &[Entry], place: usize, time: u64) -> bool
-    requires { place < length entries.now }
-    ensures { (d : Entry) → result ≡ nat_lt (get_or entries.now place d).stamp.time time }
+/// Returns whether the item at this index has a smaller time.
+fn is_before_at(items: &[LoggedItem], place: usize, time: u64) -> bool
+    requires { place < length items.now }
+    ensures { (d : LoggedItem) → result ≡ nat_lt (get_or items.now place d).stamp.time time }
 {
-    entries[place].stamp.time < time
+    items[place].stamp.time < time
 }
 
-fn is_newest_of(entries: &[Entry], entry: &Entry) -> bool
-    requires { IsLogged entries.now }
-    ensures { result ≡ is_newest entry.now entries.now }
+fn is_newest_of(items: &[LoggedItem], entry: &Entry) -> bool
+    requires { IsLogged items.now }
+    ensures { (done es : List Entry) → AreKeptFor done items.now es → result ≡ is_newest entry.now es }
 {
-    let later = &entries[count_before(entries, entry.stamp.time)..];
+    let later = &items[count_before(items, entry.stamp.time)..];
     !has_origin(later, entry.stamp.origin)
 }
 
-fn has_origin(entries: &[Entry], origin: u32) -> bool
-    ensures { result ≡ list_any (λ e. e.stamp.origin == origin) entries.now }
+fn has_origin(items: &[LoggedItem], origin: u32) -> bool
+    ensures { result ≡ list_any (λ i. i.stamp.origin == origin) items.now }
 {
-    entries.iter().any(|entry| entry.stamp.origin == origin)
+    items.iter().any(|item| item.stamp.origin == origin)
 }

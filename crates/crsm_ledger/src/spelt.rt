@@ -1,9 +1,9 @@
 //! Encodings of executed entries, joined in chunks, with an index.
 
-ghost use Rattle.std.specs.Prelude.{◌≡◌, ◌<◌, ◌+◌, ◌^◌, [], ◌∷◌, ◌++◌, List, length, slice_get, Some, OnOk, IfOk};
+ghost use Rattle.std.specs.Prelude.{◌≡◌, ◌<◌, ◌≤◌, ◌^◌, true, [], ◌∷◌, ◌++◌, List, length, slice_get, Some, OnOk, IfOk};
 ghost use Rattle.std.specs.List.{AllByRecursion};
 ghost use Rattle.std.specs.Option.{option_copied};
-ghost use Rattle.crsm_ledger.specs.Pieces.{Keeps, IsSpelling, IsWithin, piece, pieces};
+ghost use Rattle.crsm_ledger.specs.Pieces.{HasOpenChunk, Keeps, IsSpelling, IsWithin, piece, pieces};
 
 use crsm_base::{Bytes, NoMemory};
 use std::alloc::Global;
@@ -12,12 +12,14 @@ use std::marker::Model;
 /// Length of a chunk in bytes; a longer entry has a chunk of its own length.
 const CHUNK_BYTES: usize = 65_536;
 
-/// The location of an entry's bytes: the chunk, and the range in it.
+/// The location of an entry's bytes: the chunk, and the range in it. There is one for each executed entry, so it is
+/// small.
 #[derive(Clone, Copy)]
 pub struct SpellingRange {
-    pub chunk: usize,
-    pub start: usize,
-    pub end: usize,
+    pub chunk: u32,
+    pub start: u32,
+    /// Length in bytes.
+    pub size: u32,
 }
 
 /// The encodings of the executed entries, in their order. No encoding lies in two chunks.
@@ -76,7 +78,7 @@ impl Spelt {
         range_at(self.chunks.as_slice(), self.places.as_slice(), index)
     }
 
-    /// Appends an encoding. `NoMemory` if memory runs out.
+    /// Appends an encoding. `NoMemory` if memory runs out, as it does before there are 2^32 chunks.
     pub fn push(&mut self, bytes: &[u8]) -> Result<(), NoMemory>
         requires { IsSpelling bytes.now }
         ensures { OnOk result (self.new ≡ self.old ++ bytes.now ∷ []) }
@@ -116,17 +118,18 @@ fn bytes_at(chunks: &[Bytes], place: SpellingRange) -> &[u8]
     requires { IsWithin chunks.now place }
     ensures { result.now ≡ piece chunks.now place }
 {
-    &chunks[place.chunk].as_slice()[place.start..place.end]
+    let start = place.start as usize;
+    &chunks[place.chunk as usize].as_slice()[start..start + place.size as usize]
 }
 
 /// Makes the last chunk one that has room for `more` bytes. `NoMemory` if memory runs out.
 #[tactic(auto, using(crate::proofs::PiecesLemmas::pieces_rules))]
 fn make_room(alloc: Global, chunks: &mut Vec<Bytes>, more: usize) -> Result<(), NoMemory>
     ensures keeps { Keeps chunks.old.items chunks.new.items }
-    ensures some { OnOk result (0 < length chunks.new.items) }
+    ensures begun { OnOk result (HasOpenChunk chunks.new.items) }
 {
     let has_room = match chunks.last() {
-        Some(chunk) => more <= CHUNK_BYTES.saturating_sub(chunk.as_slice().len()),
+        Some(chunk) => is_room(chunk.as_slice().len(), more),
         None => false,
     };
     if !has_room {
@@ -135,19 +138,27 @@ fn make_room(alloc: Global, chunks: &mut Vec<Bytes>, more: usize) -> Result<(), 
     Ok(())
 }
 
+/// Returns whether a chunk with `held` bytes has room for `more`.
+fn is_room(held: usize, more: usize) -> bool
+    ensures { result ≡ true → held ≤ 65536 }
+{
+    held <= CHUNK_BYTES && more <= CHUNK_BYTES - held
+}
+
 /// Appends these bytes to the last chunk and returns their range. `NoMemory` if memory runs out.
 #[tactic(auto, using(crate::proofs::PiecesLemmas::pieces_rules))]
 fn append(chunks: &mut Vec<Bytes>, bytes: &[u8]) -> Result<SpellingRange, NoMemory>
-    requires { 0 < length chunks.old.items }
+    requires room { HasOpenChunk chunks.old.items }
+    requires short { length bytes.now ≤ 1129 }
     ensures keeps { Keeps chunks.old.items chunks.new.items }
     ensures placed { IfOk result (λ p. IsWithin chunks.new.items p × (piece chunks.new.items p ≡ bytes.now)) }
 {
-    let chunk = chunks.len() - 1;
-    let start = chunks[chunk].as_slice().len();
-    chunks[chunk].append(bytes)?;
-    Ok(SpellingRange {
-        chunk,
-        start,
-        end: start + bytes.len(),
-    })
+    let last = chunks.len() - 1;
+    let Ok(chunk) = u32::try_from(last) else {
+        return Err(NoMemory);
+    };
+    let start = chunks[last].as_slice().len() as u32;
+    chunks[last].append(bytes)?;
+    let size = bytes.len() as u32;
+    Ok(SpellingRange { chunk, start, size })
 }

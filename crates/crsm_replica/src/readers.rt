@@ -198,7 +198,7 @@ impl ReplicaState {
     pub fn unexecuted_len(&self) -> u64
         ensures { WhereStands self.now (λ x. active x.replica.log ≡ true → result ≡ length (unexecuted x.replica.log)) }
     {
-        self.ledger.unexecuted().len() as u64
+        self.ledger.unexecuted_len()
     }
 
     #[tactic(auto, unfolding(crate::specs::Replica::ReplicaStands))]

@@ -28,7 +28,7 @@ use Rattle.crsm_suspend.specs.Collecting.{CollectStands, CanSend, FitsGot, is_as
 use Rattle.crsm_suspend.specs.declared.collect.Collect.{Collect}
 use Rattle.crsm_suspend.specs.declared.got.PageOutcome.TheVariants as PageOutcome
 use Rattle.crsm_suspend.proofs.WholeLemmas.{report_at}
-use Rattle.crsm_suspend.proofs.FitLemmas.{own_epoch, own_fit}
+use Rattle.crsm_suspend.proofs.FitLemmas.{own_epoch}
 use Rattle.crsm_suspend.proofs.GrowLemmas.{whole_more, or_none, cursor_more}
 
 -- ---- reading
@@ -139,11 +139,11 @@ pub own_is : (log : Log) (me n : ℕ) (last : Option Stamp) (es : List Entry) �
 unfolding own_page frozen
 own_is log me n last es a b c = λ i. record { from = me; executed = a i; last = b i; whole = true; entries = c i }
 
-pub own_told : (log : Log) (me n : ℕ) (last : Option Stamp) (es fits : List Entry) → n ≤ 18446744073709547519 → es ≡ above (last_stamp log) (logged log) → fits ≡ logged log → AllByRecursion FitsEntry fits →
+pub own_told : (log : Log) (me n : ℕ) (last : Option Stamp) (es : List Entry) → n ≤ 18446744073709547519 → es ≡ above (last_stamp log) (logged log) → AllByRecursion FitsEntry es →
     CanSend (known log) (page_from me (record { executed = n; last = last; is_whole = true; entries = es }))
-own_told log me n last es fits low e f all = record {
+own_told log me n last es low e all = record {
   low = low;
-  fit = subst (AllByRecursion FitsEntry) (sym e) (own_fit (last_stamp log) (logged log) (subst (AllByRecursion FitsEntry) f all));
+  fit = all;
   of_epoch = subst (AllByRecursion (λ z. z.epoch ≡ known log)) (sym e) (own_epoch log);
 }
 

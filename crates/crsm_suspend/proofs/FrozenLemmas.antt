@@ -1,14 +1,16 @@
 -- The page of a frozen log, entry by entry.
-use Rattle.std.proofs.Common.{arith, ◌≡◌, ◌∙◌, ℕ, suc, ◌+◌, ◌<◌, ◌≤◌, Bool, true, false, refl, sym, ap, List, [], ◌∷◌, ◌++◌, cond, length, get_or, drop}
-use Rattle.std.specs.Prelude.{◌-◌, ◌==◌, filter, nat_le, Option, Some, None}
+use Rattle.std.proofs.Common.{arith, ◌≡◌, ◌∙◌, ℕ, zero, suc, ◌+◌, ◌<◌, ◌≤◌, Bool, true, false, refl, sym, ap, List, [], ◌∷◌, ◌++◌, cond, length, drop}
+use Rattle.std.specs.Prelude.{◌-◌, ◌==◌, filter, nat_le, slice_get, Option, Some, None}
 use Rattle.std.proofs.lemmas.Bool.Decides.{nat_tests}
-use Rattle.std.proofs.lemmas.List.{append_assoc, append-nil, drop_more, drop_all, length-append}
+use Rattle.std.proofs.lemmas.List.{append_assoc, append-nil, drop_more, length-append}
+use Rattle.std.proofs.lemmas.Option.{get_or_from_slice_get}
+use Rattle.crsm_fact_log.proofs.Lists.{get_inside}
 use Rattle.crsm_spec.specs.Types.{Stamp, Entry, Control}
 use Rattle.crsm_base.specs.Order.{stamp_lt}
 use Rattle.crsm_base.specs.Spelling.{entry_bytes}
 use Rattle.crsm_spec.specs.Log.{Log, above, known, executed, logged, last_stamp}
 use Rattle.crsm_spec.specs.Collect.{run_within, first_page, frozen, asked_of, suspend_ok}
-use Rattle.crsm_suspend.specs.Pages.{is_over, asked_stamp}
+use Rattle.crsm_suspend.specs.Pages.{is_over, asked_stamp, IsPageOf}
 
 pub over_some : (o : Option Stamp) (floor s : Stamp) → o ≡ Some floor → stamp_lt floor s ≡ is_over o s
 unfolding is_over
@@ -17,10 +19,6 @@ over_some o floor s e = rw e refl
 pub over_none : (o : Option Stamp) (s : Stamp) → o ≡ None → true ≡ is_over o s
 unfolding is_over
 over_none o s e = rw e refl
-
--- what is left of a list from a place on
-pub left : {A : Type 0} (xs : List A) (i : ℕ) (x : A) → i < length xs → x ≡ get_or xs i x → drop i xs ≡ x ∷ drop (i + 1) xs
-left xs i x l e = drop_more xs i x l ∙ ap (λ y. y ∷ drop (i + 1) xs) (sym e)
 
 pub above_next : (o : Option Stamp) (e : Entry) (es : List Entry) (b : Bool) → is_over o e.stamp ≡ b → above o (e ∷ es) ≡ cond b (e ∷ above o es) (above o es)
 unfolding above is_over
@@ -55,60 +53,53 @@ pub record IsPaging (page : List Entry) (room : ℕ) (rest all : List Entry) : T
   pub run : page ++ run_within room rest ≡ first_page all
   pub long : length page + length rest ≡ length all
 
-pub begins : (o : Option Stamp) (es page : List Entry) → page ≡ [] → IsPaging page 65536 (above o es) (above o es)
+-- what is left of a list from a place on
+pub left : {A : Type 0} (xs : List A) (i : ℕ) (x : A) → slice_get xs i ≡ Some x → drop i xs ≡ x ∷ drop (i + 1) xs
+left xs i x at = drop_more xs i x (get_inside xs i x at) ∙ ap (λ y. y ∷ drop (i + 1) xs) (get_or_from_slice_get xs i x x at)
+
+pub nothing_left : {A : Type 0} (xs : List A) (i : ℕ) → slice_get xs i ≡ None → drop i xs ≡ []
+nothing_left [] zero at = refl
+nothing_left [] (suc i) at = refl
+nothing_left (y ∷ xs) zero at = cc
+nothing_left (y ∷ xs) (suc i) at = nothing_left xs i at
+
+pub begins : (es page : List Entry) → page ≡ [] → IsPaging page 65536 es es
 unfolding first_page
-begins o es page e = rw e (record { run = refl; long = omega arith })
+begins es page e = rw e (record { run = refl; long = omega arith })
 
-module _ (o : Option Stamp) (es page all : List Entry) (i room : ℕ) (e : Entry) (at : drop i es ≡ e ∷ drop (i + 1) es) (so_far : IsPaging page room (above o (drop i es)) all) where
-  rest_is : (b : Bool) → is_over o e.stamp ≡ b → above o (drop i es) ≡ cond b (e ∷ above o (drop (i + 1) es)) (above o (drop (i + 1) es))
-  rest_is b h = ap (λ xs. above o xs) at ∙ above_next o e (drop (i + 1) es) b h
-
-  -- the entry is passed over
-  pub passed : is_over o e.stamp ≡ false → IsPaging page room (above o (drop (i + 1) es)) all
-  passed h = let r = rest_is false h in record {
-    run = ap (λ xs. page ++ run_within room xs) (sym r) ∙ so_far.run;
-    long = ap (λ (xs : List Entry). length page + length xs) (sym r) ∙ so_far.long;
-  }
-
+module _ (page all rest : List Entry) (room : ℕ) (e : Entry) (so_far : IsPaging page room (e ∷ rest) all) where
   -- the entry goes in
-  pub goes_in : (more : List Entry) (size : ℕ) → is_over o e.stamp ≡ true → size ≡ length (entry_bytes e) → size ≤ room → more ≡ page ++ e ∷ [] →
-      IsPaging more (room - size) (above o (drop (i + 1) es)) all
-  goes_in more size h s l m =
-      let r = rest_is true h in
-      let rest = above o (drop (i + 1) es) in
+  pub goes_in : (more : List Entry) (size : ℕ) → size ≡ length (entry_bytes e) → size ≤ room → more ≡ page ++ e ∷ [] → IsPaging more (room - size) rest all
+  goes_in more size s l m =
       let fits : length (entry_bytes e) ≤ room = omega (arith, s, l) in
       let grown : length more ≡ length page + 1 = ap (λ (xs : List Entry). length xs) m ∙ length-append page (e ∷ []) in
-      let before : length page + suc (length rest) ≡ length all = ap (λ (xs : List Entry). length page + length xs) (sym r) ∙ so_far.long in
       record {
         run = ap (λ xs. xs ++ run_within (room - size) rest) m ∙ append_assoc page (e ∷ []) (run_within (room - size) rest)
             ∙ ap (λ n. page ++ e ∷ run_within (room - n) rest) s
-            ∙ ap (λ xs. page ++ xs) (sym (ap (λ xs. run_within room xs) r ∙ run_next room e rest fits)) ∙ so_far.run;
-        long = omega (arith, grown, before);
+            ∙ ap (λ xs. page ++ xs) (sym (run_next room e rest fits)) ∙ so_far.run;
+        long = omega (arith, grown, so_far.long);
       }
 
   -- the entry does not go in, and the page is full
-  pub is_full : (size : ℕ) → is_over o e.stamp ≡ true → size ≡ length (entry_bytes e) → room < size → (page ≡ first_page all) × (false ≡ (length page == length all))
-  is_full size h s l =
-      let r = rest_is true h in
-      let rest = above o (drop (i + 1) es) in
+  pub is_full : (size : ℕ) → size ≡ length (entry_bytes e) → room < size → IsPageOf all page false
+  is_full size s l =
       let over : room < length (entry_bytes e) = omega (arith, s, l) in
-      let before : length page + suc (length rest) ≡ length all = ap (λ (xs : List Entry). length page + length xs) (sym r) ∙ so_far.long in (
-        sym (append-nil page) ∙ ap (λ xs. page ++ xs) (sym (ap (λ xs. run_within room xs) r ∙ run_stops room e rest over)) ∙ so_far.run,
-        apart (length page) (length rest) (length all) before,
-      )
+      record {
+        entries = sym (append-nil page) ∙ ap (λ xs. page ++ xs) (sym (run_stops room e rest over)) ∙ so_far.run;
+        mark = apart (length page) (length rest) (length all) so_far.long;
+      }
     where
       apart : (a b c : ℕ) → a + suc b ≡ c → false ≡ (a == c)
       apart a b c t = grind (arith, nat_tests)
 
 -- all that there is goes in
-pub is_all : (o : Option Stamp) (es page all : List Entry) (i room : ℕ) → length es ≤ i → IsPaging page room (above o (drop i es)) all →
-    (page ≡ first_page all) × (true ≡ (length page == length all))
-is_all o es page all i room l so_far =
-    let r = ap (λ xs. above o xs) (drop_all i es l) ∙ above_none o in
-    let same : length page + 0 ≡ length all = ap (λ (xs : List Entry). length page + length xs) (sym r) ∙ so_far.long in (
-      sym (append-nil page) ∙ ap (λ xs. page ++ xs) (sym (ap (λ xs. run_within room xs) r ∙ run_none room)) ∙ so_far.run,
-      equal (length page) (length all) same,
-    )
+pub is_all : (all page rest : List Entry) (room : ℕ) → rest ≡ [] → IsPaging page room rest all → IsPageOf all page true
+is_all all page rest room none so_far =
+    let same : length page + 0 ≡ length all = ap (λ (xs : List Entry). length page + length xs) (sym none) ∙ so_far.long in
+    record {
+      entries = sym (append-nil page) ∙ ap (λ xs. page ++ xs) (sym (ap (λ xs. run_within room xs) none ∙ run_none room)) ∙ so_far.run;
+      mark = equal (length page) (length all) same;
+    }
   where
     equal : (a b : ℕ) → a + 0 ≡ b → true ≡ (a == b)
     equal a b t = grind (arith, nat_tests)
@@ -120,15 +111,14 @@ unfolding asked_of frozen
 asked_is log None = refl
 asked_is log (Some s) = refl
 
-pub answer_is : (log : Log) (after last floor : Option Stamp) (epoch done : ℕ) (whole : Bool) (es page : List Entry) →
-    epoch ≡ known log → done ≡ length (executed log) → last ≡ last_stamp log → es ≡ logged log → floor ≡ asked_stamp after last →
-    page ≡ first_page (above floor es) → whole ≡ (length page == length (above floor es)) →
+pub answer_is : (log : Log) (after last floor : Option Stamp) (epoch done : ℕ) (whole : Bool) (page : List Entry) →
+    epoch ≡ known log → done ≡ length (executed log) → last ≡ last_stamp log → floor ≡ asked_stamp after last → IsPageOf (above floor (logged log)) page whole →
     Control.SuspendOk epoch done last after whole page ≡ suspend_ok log after
 unfolding suspend_ok
-answer_is log after last floor epoch done whole es page e d l g f p w =
-    let all : above floor es ≡ asked_of log after =
-    ap (λ o. above o es) (f ∙ ap (λ t. asked_stamp after t) l) ∙ ap (λ xs. above (asked_stamp after (last_stamp log)) xs) g ∙ sym (asked_is log after) in
-    let q : page ≡ first_page (asked_of log after) = p ∙ ap (λ xs. first_page xs) all in
+answer_is log after last floor epoch done whole page e d l f p =
+    let all : above floor (logged log) ≡ asked_of log after =
+    ap (λ o. above o (logged log)) (f ∙ ap (λ t. asked_stamp after t) l) ∙ sym (asked_is log after) in
+    let q : page ≡ first_page (asked_of log after) = p.entries ∙ ap (λ xs. first_page xs) all in
     let v : whole ≡ (length (first_page (asked_of log after)) == length (asked_of log after)) =
-    w ∙ ap (λ (xs : List Entry). length page == length xs) all ∙ ap (λ (xs : List Entry). length xs == length (asked_of log after)) q in
+    p.mark ∙ ap (λ (xs : List Entry). length page == length xs) all ∙ ap (λ (xs : List Entry). length xs == length (asked_of log after)) q in
     rw (e, d, l, v, q) refl

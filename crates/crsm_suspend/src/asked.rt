@@ -1,13 +1,15 @@
 //! The pages of frozen logs: a replica's own, and which page of another is expected.
 
 ghost use Rattle.std.specs.Prelude.{◌≡◌, ℕ, List, IfOk};
+ghost use Rattle.std.specs.List.{AllByRecursion};
 ghost use Rattle.std.specs.Option.{option_eq};
+ghost use Rattle.crsm_base.specs.Spelling.{FitsEntry};
 ghost use Rattle.crsm_base.specs.Order.{stamp_eq};
 ghost use Rattle.crsm_base.specs.declared.Rec.{Rec};
 ghost use Rattle.crsm_ledger.specs.Ledger.{LedgerStands};
 ghost use Rattle.crsm_spec.specs.Collect.{own_page};
 ghost use Rattle.crsm_spec.specs.Controls.{are_above, is_page_of};
-ghost use Rattle.crsm_spec.specs.Log.{above, known};
+ghost use Rattle.crsm_spec.specs.Log.{above, known, logged};
 ghost use Rattle.crsm_suspend.specs.Collecting.{CanSend};
 ghost use Rattle.crsm_suspend.specs.Reports.{page_from};
 
@@ -28,7 +30,7 @@ pub fn own_page(alloc: Global, ledger: &Ledger) -> Result<Page, NoMemory>
 {
     let executed = ledger.executed_len();
     let last = ledger.last_stamp();
-    let entries = copies_above(alloc, last, ledger.logged())?;
+    let entries = copies_above(alloc, ledger, last)?;
     Ok(Page {
         executed,
         last,
@@ -37,16 +39,17 @@ pub fn own_page(alloc: Global, ledger: &Ledger) -> Result<Page, NoMemory>
     })
 }
 
-/// Returns copies of the entries above a stamp, of all entries at `None`. `NoMemory` if memory runs out.
-fn copies_above(alloc: Global, floor: Option<Stamp>, entries: &[Entry]) -> Result<Entries, NoMemory>
-    ensures { IfOk result (λ copies. copies ≡ above floor entries.now) }
+/// Returns copies of the logged entries above a stamp, of all at `None`. `NoMemory` if memory runs out.
+fn copies_above(alloc: Global, ledger: &Ledger, floor: Option<Stamp>) -> Result<Entries, NoMemory>
+    ensures value { (me n : ℕ) (log : List Rec) → LedgerStands me n ledger.now log → IfOk result (λ copies. copies ≡ above floor (logged log)) }
+    ensures fit { IfOk result (AllByRecursion FitsEntry) }
 {
     let mut copies = Entries::new(alloc);
-    for entry in entries {
-        if !is_above(floor, entry.stamp) {
-            continue;
-        }
-        copies.push(entry.copy(alloc)?)?;
+    for index in ledger.first_above(floor)..ledger.logged_len() {
+        let Some(entry) = ledger.logged_at(index)? else {
+            return Ok(copies);
+        };
+        copies.push(entry)?;
     }
     Ok(copies)
 }

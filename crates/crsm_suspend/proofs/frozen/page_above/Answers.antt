@@ -1,46 +1,42 @@
-use Rattle.std.proofs.Common.{arith, ◌≡◌, ◌∙◌, ◌∷◌, ◌++◌, [], ap, true, false}
+use Rattle.std.proofs.Common.{◌+◌, sym, subst, arith, drop, ◌∷◌, List}
+use Rattle.std.proofs.lemmas.List.{drop_all}
 use Rattle.crsm_spec.specs.Types.{Entry}
-use Rattle.crsm_spec.specs.Log.{above}
-use Rattle.crsm_suspend.specs.Pages.{is_over}
-use Rattle.crsm_suspend.proofs.FrozenLemmas.{left, begins, passed, goes_in, is_full, is_all}
+use Rattle.crsm_spec.specs.Log.{above, logged}
+use Rattle.crsm_suspend.proofs.FrozenLemmas.{IsPaging, left, nothing_left, begins, goes_in, is_full, is_all}
 use Rattle.crsm_suspend.proofs.frozen.page_above.Goals as goal
 
-pub loop-entry-init : goal.loop-entry-init
-loop-entry-init c = begins c.args.floor c.args.logged.now c.new-page.result c.new-page.ensures
+pub loop-index-init : goal.loop-index-init
+loop-index-init c = λ me n log s.
+    let all = above c.args.floor (logged log) in
+    subst (λ (rest : List Entry). IsPaging c.new-page.result 65536 rest all) (sym (c.first_above-index.ensures me n log s)) (begins all c.new-page.result c.new-page.ensures)
 
-pub loop-entry-preserved-then-not-is_above : goal.loop-entry-preserved-then-not-is_above
-loop-entry-preserved-then-not-is_above c =
-    let at = left c.args.logged.now c.loop-entry.entry-index c.entry-item.result (omega arith) (cc) in
-    let over : is_over c.args.floor c.entry-item.result.stamp ≡ false = cc (c.is_above.ensures) in
-    passed c.args.floor c.args.logged.now c.loop-entry.page (above c.args.floor c.args.logged.now) c.loop-entry.entry-index c.loop-entry.room c.entry-item.result
-    at c.loop-entry.invariant over
+pub loop-index-preserved : goal.loop-index-preserved
+loop-index-preserved c = λ me n log s.
+    let all = above c.args.floor (logged log) in
+    let index = c.loop-index.index in
+    let entry = c.in-Some.entry in
+    let at = rw c.in-Some.is at (c.in_ok-entry.ensures.value me n log s) in
+    let so_far = subst (λ (rest : List Entry). IsPaging c.loop-index.page c.loop-index.room rest all) (left (logged log) index entry (sym at)) (c.loop-index.invariant me n log s) in
+    goes_in c.loop-index.page all (drop (index + 1) (logged log)) c.loop-index.room entry so_far
+    c.push.new.self c.entry_size-size.result c.entry_size-size.ensures (omega (arith, c.if-size-room.false)) c.in_ok-push.ensures.ok
 
-pub loop-entry-preserved : goal.loop-entry-preserved
-loop-entry-preserved c =
-    let at = left c.args.logged.now c.loop-entry.entry-index c.entry-item.result (omega arith) (cc) in
-    let over : is_over c.args.floor c.entry-item.result.stamp ≡ true = cc (c.is_above.ensures) in
-    goes_in c.args.floor c.args.logged.now c.loop-entry.page (above c.args.floor c.args.logged.now) c.loop-entry.entry-index c.loop-entry.room c.entry-item.result
-    at c.loop-entry.invariant c.push.new.self c.entry_size-size.result over c.entry_size-size.ensures (omega arith)
-    (c.in_ok-push.ensures.ok ∙ ap (λ (e : Entry). c.loop-entry.page ++ e ∷ []) c.in_ok-copy.ensures)
+pub returns-then-size-room : goal.returns-then-size-room
+returns-then-size-room c = λ me n log s.
+    let all = above c.args.floor (logged log) in
+    let index = c.loop-index.index in
+    let entry = c.in-Some.entry in
+    let at = rw c.in-Some.is at (c.in_ok-entry.ensures.value me n log s) in
+    let so_far = subst (λ (rest : List Entry). IsPaging c.loop-index.page c.loop-index.room rest all) (left (logged log) index entry (sym at)) (c.loop-index.invariant me n log s) in
+    is_full c.loop-index.page all (drop (index + 1) (logged log)) c.loop-index.room entry so_far
+    c.entry_size-size.result c.entry_size-size.ensures (omega (arith, c.if-size-room.true))
 
-pub returns-then-size-room-clause-entries : goal.returns-then-size-room-clause-entries
-returns-then-size-room-clause-entries c =
-    let at = left c.args.logged.now c.loop-entry.entry-index c.entry-item.result (omega arith) (cc) in
-    let over : is_over c.args.floor c.entry-item.result.stamp ≡ true = cc (c.is_above.ensures) in
-    (is_full c.args.floor c.args.logged.now c.loop-entry.page (above c.args.floor c.args.logged.now) c.loop-entry.entry-index c.loop-entry.room c.entry-item.result
-    at c.loop-entry.invariant c.entry_size-size.result over c.entry_size-size.ensures (omega arith)).0
+pub returns-in_default : goal.returns-in_default
+returns-in_default c = λ me n log s.
+    let at = rw c.in_default.is at (c.in_ok-entry.ensures.value me n log s) in
+    is_all (above c.args.floor (logged log)) c.loop-index.page (drop c.loop-index.index (logged log)) c.loop-index.room
+    (nothing_left (logged log) c.loop-index.index (sym at)) (c.loop-index.invariant me n log s)
 
-pub returns-then-size-room-clause-whole : goal.returns-then-size-room-clause-whole
-returns-then-size-room-clause-whole c =
-    let at = left c.args.logged.now c.loop-entry.entry-index c.entry-item.result (omega arith) (cc) in
-    let over : is_over c.args.floor c.entry-item.result.stamp ≡ true = cc (c.is_above.ensures) in
-    (is_full c.args.floor c.args.logged.now c.loop-entry.page (above c.args.floor c.args.logged.now) c.loop-entry.entry-index c.loop-entry.room c.entry-item.result
-    at c.loop-entry.invariant c.entry_size-size.result over c.entry_size-size.ensures (omega arith)).1
-
-pub returns-clause-entries : goal.returns-clause-entries
-returns-clause-entries c =
-    (is_all c.args.floor c.args.logged.now c.loop-entry.page (above c.args.floor c.args.logged.now) c.loop-entry.entry-index c.loop-entry.room (omega arith) c.loop-entry.invariant).0
-
-pub returns-clause-whole : goal.returns-clause-whole
-returns-clause-whole c =
-    (is_all c.args.floor c.args.logged.now c.loop-entry.page (above c.args.floor c.args.logged.now) c.loop-entry.entry-index c.loop-entry.room (omega arith) c.loop-entry.invariant).1
+pub returns : goal.returns
+returns c = λ me n log s.
+    let none = drop_all c.loop-index.index (logged log) (omega (arith, c.loop-index-test.false, c.logged_len-index-end.ensures me n log s)) in
+    is_all (above c.args.floor (logged log)) c.loop-index.page (drop c.loop-index.index (logged log)) c.loop-index.room none (c.loop-index.invariant me n log s)

@@ -4,8 +4,8 @@ use Rattle.crsm_spec.specs.Types.{Entry}
 use Rattle.crsm_ledger.proofs.ExecutedLemmas.{entry_at, slice_get-spelt}
 use Rattle.crsm_ledger.proofs.history.History.entry.Goals as goal
 
-pub returns : goal.returns
-returns c = λ x es has.
+pub returns-clause-value : goal.returns-clause-value
+returns-clause-value c = λ x es has.
     let lent = sym c.at.ensures.value ∙ slice_get-spelt c.args.self.now x es c.args.place has in
     let found = entry_at es c.args.place c.at.result.now has.fit lent in
-    found.1 ∙ ap (λ (e : Entry). Some e) (sym (c.in_ok-entry.ensures found.0 found.3 found.2))
+    found.1 ∙ ap (λ (e : Entry). Some e) (sym (c.in_ok-entry.ensures.value found.0 found.3 found.2))

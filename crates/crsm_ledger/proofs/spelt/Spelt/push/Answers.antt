@@ -1,7 +1,7 @@
 use Rattle.std.proofs.Common.{◌∙◌, ap, sym, subst, [], ◌∷◌, ◌++◌, List, ℕ}
 use Rattle.crsm_ledger.specs.declared.spelt.SpellingRange.{SpellingRange}
 use Rattle.crsm_ledger.specs.Pieces.{IsSpelling, pieces, piece}
-use Rattle.crsm_ledger.proofs.PiecesLemmas.{keeps-trans, pieces-kept, pieces-push, spelt-kept, spelt-push}
+use Rattle.crsm_ledger.proofs.PiecesLemmas.{keeps-trans, pieces-kept, pieces-push, spelling_short, spelt-kept, spelt-push}
 use Rattle.crsm_ledger.proofs.spelt.Spelt.push.Goals as goal
 
 pub invariant_of-self : goal.invariant_of-self
@@ -41,3 +41,6 @@ returns c =
     c.self.invariant.0)
     ∙ ap (λ (bytes : List ℕ). pieces c.self.inside.chunks.items c.self.inside.places.items ++ bytes ∷ []) c.in_ok-place.ensures.placed.1
     ∙ ap (λ (before : List (List ℕ)). before ++ c.args.bytes.now ∷ []) c.self.view_is
+
+pub append-requires-clause-short : goal.append-requires-clause-short
+append-requires-clause-short c = spelling_short c.args.bytes.now c.requires
