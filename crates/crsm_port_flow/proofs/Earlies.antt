@@ -1,9 +1,8 @@
 -- Frames that wait, and datagrams of peers that are ready.
-use Rattle.std.proofs.Common.{◌≡◌, ◌∙◌, ◌<◌, ◌++◌, ℕ, zero, suc, List, [], ◌∷◌, length, map, set, refl, sym, ap, subst, arith, inl, inr, Option, Some, None, true, false, Vec, Global, Result, Ok, Err}
+use Rattle.std.proofs.Common.{◌≡◌, ◌∙◌, ◌<◌, ◌++◌, ℕ, zero, suc, List, [], ◌∷◌, length, map, set, refl, sym, ap, subst, arith, inl, inr, Option, Some, None, true, Vec, Global, Result, Ok, Err}
 use Rattle.std.proofs.lemmas.List.{append_assoc}
 use Rattle.std.proofs.lemmas.Bool.{true≢false}
 use Rattle.std.proofs.lemmas.Option.{none-some}
-use Rattle.std.specs.Option.{is_some}
 use Rattle.std.specs.Prelude.{Contains, OnOk, is_ok, slice_index_or}
 use Rattle.crsm_base.specs.declared.memory.NoMemory.{NoMemory}
 use Rattle.crsm_port.specs.Passing.{NoMore, either}
@@ -20,10 +19,6 @@ use Rattle.crsm_port_flow.specs.declared.peers.FromPeers.{FromPeers}
 
 pub frame_same : (f g : Frame) → Some f ≡ Some g → f ≡ g
 frame_same f g e = cc
-
-pub not_some : (x : Option Frame) → is_some x ≡ false → x ≡ None
-not_some None e = refl
-not_some (Some f) e = absurd (true≢false e)
 
 -- a free place is filled
 pub set_stays : (xs : List (Option Frame)) (k : ℕ) (y : Option Frame) (f : Frame) → slice_index_or xs k None ≡ None → Contains xs (Some f) → Contains (set xs k y) (Some f)

@@ -13,6 +13,10 @@ use Rattle.crsm_port_flow.specs.declared.heads.Asked.TheVariants as asked
 abbrev pub HasHead : ℕ → ℕ → ℕ → ℕ → ℕ → List ℕ → Type 0
 HasHead kind from to epoch number bytes = (fields after rest : List ℕ) × (behind_any_mark bytes ≡ kind ∷ from ∷ to ∷ fields) × (u64_at fields ≡ Some (epoch, after)) × (u64_at after ≡ Some (number, rest))
 
+-- the bytes are a reply, by the first of them
+abbrev pub IsReply : List ℕ → Type 0
+IsReply bytes = (fields : List ℕ) × (behind_any_mark bytes ≡ 5 ∷ fields)
+
 -- the bytes are a client's request, whole
 abbrev pub IsRequest : List ℕ → Type 0
 IsRequest bytes = (command : Command) × SpeltDatagram (datagram.Request command) (behind_any_mark bytes)

@@ -7,3 +7,4 @@ pub mod Taken
 pub mod Turns
 pub mod Waits
 pub mod Went
+pub mod Windows

@@ -4,6 +4,7 @@ use Rattle.crsm_port.specs.declared.port.Recv.{Recv}
 use Rattle.crsm_port_flow.specs.Kept.{GoesUp, packet_of}
 use Rattle.crsm_port_flow.specs.Turns.{IsOldestYoung, TakesFirst}
 use Rattle.crsm_port_flow.specs.Went.{IsRecent}
+use Rattle.crsm_port_flow.specs.Windows.{IsBehind}
 use Rattle.crsm_port_flow.specs.declared.clients.Clients.{Clients}
 use Rattle.crsm_port_flow.specs.declared.clients.Operate.{Operate}
 use Rattle.crsm_port_flow.specs.declared.datagram.Datagram.{Datagram}
@@ -48,10 +49,6 @@ NoneGoes now c = (c.requests.waiting.items ≡ []) ⊎ HasNoRoom now c.requests
 abbrev pub IsNotDue : ℕ → Option Operate → Type 0
 IsNotDue now operate = (o : Operate) → operate ≡ Some o → (o.has_gone ≡ true) × IsRecent o.at now 1_000_000
 
--- a frame of the newest epoch was acknowledged, or the first of those under way was sent, less than a second ago
-abbrev pub IsBehind : ℕ → Window → Type 0
-IsBehind now w = IsRecent w.since now 1_000_000
-
--- nothing goes up: no datagram of a peer is ready, and nothing that another asks for goes up
+-- nothing goes up: no datagram of a peer is ready, no request for a membership change is due, and no request waits, or the node has no room, or a peer is behind
 abbrev pub NothingGoes : ℕ → Inbound → Window → Type 0
 NothingGoes now i w = (i.peers.ready.items ≡ []) × IsNotDue now i.clients.operate × (NoneGoes now i.clients ⊎ IsBehind now w)

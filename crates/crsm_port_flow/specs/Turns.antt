@@ -1,7 +1,9 @@
 -- Requests that wait for their turn, the oldest first, and commands that are under way.
-use Rattle.std.specs.Prelude.{◌≡◌, ◌⊎◌, ◌++◌, ℕ, List, [], ◌∷◌, All, Contains, Some}
+use Rattle.std.specs.Prelude.{◌≡◌, ◌⊎◌, ◌++◌, ◌&&◌, ◌==◌, ℕ, Bool, List, [], ◌∷◌, All, Option, Some, None, false}
+use Rattle.std.specs.Map.{lookup}
 use Rattle.crsm_base.specs.Reading.{u64_at}
 use Rattle.crsm_wire.specs.Marks.{behind_any_mark}
+use Rattle.crsm_port_flow.specs.Heads.{IsReply}
 use Rattle.crsm_port_flow.specs.Went.{IsRecent}
 use Rattle.crsm_port_flow.specs.declared.commands.Command.{Command}
 use Rattle.crsm_port_flow.specs.declared.datagram.Datagram.{Datagram}
@@ -12,9 +14,28 @@ use Rattle.crsm_port_flow.specs.declared.requests.Waiting.{Waiting as Request}
 abbrev pub IsCommandIn : Command → List ℕ → Type 0
 IsCommandIn c bytes = (kind : ℕ) × (fields after rest : List ℕ) × (behind_any_mark bytes ≡ kind ∷ fields) × (u64_at fields ≡ Some (c.client, after)) × (u64_at after ≡ Some (c.number, rest))
 
+-- the bytes are a reply to this command
+abbrev pub IsReplyTo : Command → List ℕ → Type 0
+IsReplyTo c bytes = IsReply bytes × IsCommandIn c bytes
+
+abbrev pub is_same : Command → Command → Bool
+is_same c d = (c.client == d.client) && (c.number == d.number)
+
+-- the reading that a command has among these
+abbrev pub reading_of : Command → List (Command × ℕ) → Option ℕ
+reading_of command commands = lookup (is_same command) commands
+
 -- the command is among these, each with a reading, and less than `span` has passed since its own
 abbrev pub IsSince : Command → ℕ → ℕ → List (Command × ℕ) → Type 0
-IsSince command now span commands = (at : ℕ) × Contains commands (command, at) × IsRecent at now span
+IsSince command now span commands = (at : ℕ) × (reading_of command commands ≡ Some at) × IsRecent at now span
+
+-- the command does not count as one that the node has not answered
+abbrev pub IsAnswered : Command → List (Command × ℕ) → Type 0
+IsAnswered command unanswered = reading_of command unanswered ≡ None
+
+-- of any other command nothing changes
+abbrev pub OthersStay : Command → List (Command × ℕ) → List (Command × ℕ) → Type 0
+OthersStay command old new = (other : Command) → is_same command other ≡ false → reading_of other new ≡ reading_of other old
 
 -- the command waits for less than two seconds, or the node has had it for less than one and has not answered it
 abbrev pub IsUnderWay : Command → ℕ → (waits unanswered : List (Command × ℕ)) → Type 0
@@ -23,7 +44,7 @@ IsUnderWay command now waits unanswered = IsSince command now 2_000_000 waits �
 -- no command counts, or the one that the node received first has been there for less than a second without a reply
 abbrev pub IsOldestYoung : ℕ → List Opened → (unanswered : List (Command × ℕ)) → Type 0
 IsOldestYoung now opened unanswered =
-    (unanswered ≡ []) ⊎ ((o : Opened) × (later : List Opened) × (opened ≡ o ∷ later) × Contains unanswered (o.command, o.since) × IsRecent o.since now 1_000_000)
+    (unanswered ≡ []) ⊎ ((o : Opened) × (later : List Opened) × (opened ≡ o ∷ later) × (reading_of o.command unanswered ≡ Some o.since) × IsRecent o.since now 1_000_000)
 
 -- the oldest request leaves, with its datagram
 abbrev pub TakesFirst : Datagram → List Request → List Request → Type 0

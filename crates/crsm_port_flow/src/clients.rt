@@ -6,7 +6,7 @@ ghost use Rattle.crsm_port_flow.specs.Heads.{IsOperate, IsRequest};
 ghost use Rattle.crsm_port_flow.specs.Kept.{KeepsOnly, of_clients};
 ghost use Rattle.crsm_port_flow.specs.Order.{IsNotDue, LatestGoes, NoneGoes, OldestGoes};
 ghost use Rattle.crsm_port_flow.specs.Taken.{IsAsked};
-ghost use Rattle.crsm_port_flow.specs.Turns.{AreInTime, DropsOver};
+ghost use Rattle.crsm_port_flow.specs.Turns.{AreInTime, DropsOver, IsAnswered, IsCommandIn};
 
 use crate::commands::Command;
 use crate::datagram::{Datagram, Room};
@@ -201,6 +201,7 @@ impl Clients {
 
     /// Records that the node has answered a command.
     pub(crate) fn note_answered(&mut self, reply: &[u8])
+        ensures answered { (c : Command) → IsCommandIn c reply.now → IsAnswered c self.new.requests.unanswered.entries }
         ensures waiting { self.new.requests.waiting.items ≡ self.old.requests.waiting.items }
         ensures operate { self.new.operate ≡ self.old.operate }
     {

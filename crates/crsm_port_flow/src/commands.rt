@@ -1,6 +1,6 @@
 //! The commands that requests and replies name.
 
-ghost use Rattle.std.specs.Prelude.{IfSome};
+ghost use Rattle.std.specs.Prelude.{◌≡◌, Some, IfSome};
 ghost use Rattle.crsm_port_flow.specs.Turns.{IsCommandIn};
 
 use crsm_text_fields::take_u64;
@@ -16,7 +16,8 @@ pub(crate) struct Command {
 impl Command {
     /// Returns the command that a request or a reply names, with or without the mark of a cluster.
     pub(crate) fn of(bytes: &[u8]) -> Option<Command>
-        ensures { IfSome result (λ c. IsCommandIn c bytes.now) }
+        ensures named { IfSome result (λ c. IsCommandIn c bytes.now) }
+        ensures only { (c : Command) → IsCommandIn c bytes.now → result ≡ Some c }
     {
         match unmarked(bytes) {
             [_, rest @ ..] => {

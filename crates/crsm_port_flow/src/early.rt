@@ -1,6 +1,6 @@
 //! Frames that were received before an earlier frame of their link.
 
-ghost use Rattle.std.specs.Prelude.{◌≡◌, [], IfOk, IfSome, OnOk, true};
+ghost use Rattle.std.specs.Prelude.{◌≡◌, [], None, IfOk, IfSome, OnOk, true};
 ghost use Rattle.crsm_port_flow.specs.Early.{IsAfterExpected, IsEarlyIn, IsFrameOf, KeepsSome, OneMoreWaits, StayKept, Waits, WaitsAs, WaitedFrom};
 
 use crate::datagram::{Datagram, Room};
@@ -124,7 +124,7 @@ impl Early {
         ensures only { OneMoreWaits datagram self.old.frames.items self.new.frames.items }
     {
         match self.frames.get_mut(place_of(frame.from, frame.number)) {
-            Some(place) if place.is_none() => {
+            Some(place) if is_free(place) => {
                 *place = Some(Frame {
                     from: frame.from,
                     number: frame.number,
@@ -232,6 +232,13 @@ fn take_at(frames: &mut Vec<Option<Frame>>, from: u8, number: u64) -> Option<Dat
     }
     let frame = place.take()?;
     Some(frame.datagram)
+}
+
+/// Returns whether a place has no frame.
+fn is_free(place: &Option<Frame>) -> bool
+    ensures { result ≡ true → place.now ≡ None }
+{
+    place.is_none()
 }
 
 /// Returns whether this is the frame of this sender and number.

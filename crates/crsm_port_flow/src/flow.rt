@@ -9,7 +9,9 @@ ghost use Rattle.crsm_port_flow.specs.Acks.{AllSay, packet_of, sent_with};
 ghost use Rattle.crsm_port_flow.specs.Kept.{KeepsOnly, given_by, kept_in};
 ghost use Rattle.crsm_port_flow.specs.Order.{NextGoes, NothingGoes};
 ghost use Rattle.crsm_port_flow.specs.Taken.{Comes, IsStranger};
+ghost use Rattle.crsm_port_flow.specs.Turns.{IsAnswered, IsReplyTo};
 ghost use Rattle.crsm_port_flow.specs.Waits.{MayWait, SendsAll};
+ghost use Rattle.crsm_port_flow.specs.declared.commands.Command.{Command};
 
 use crate::clients::NextAsked;
 use crate::hearing::{Heard, Hearing};
@@ -353,6 +355,7 @@ impl<P: Port, C: Clock> Port for FlowPort<P, C> {
         ensures sends { Sends to bytes.now (unknown self.old.faults self.old.losses self.old.empties) (unknown self.new.faults self.new.losses self.new.empties) result }
         ensures passes_on { PassesOn (given_by (P.gives self.old.port) self.old.inbound) (given_by (P.gives self.new.port) self.new.inbound) (sent_with (P.may_send self.old.port) self.old.outbound.acks.acks.items) (sent_with (P.may_send self.new.port) self.new.outbound.acks.acks.items) to bytes.now }
         ensures goes { Sends to bytes.now (P.meaning self.old.port) (P.meaning self.new.port) result ⊎ (IsOk result × (self.new.port ≡ self.old.port) × MayWait to bytes.now self.old.now self.old.outbound self.new.outbound) }
+        ensures answered { (c : Command) → IsReplyTo c bytes.now → IsAnswered c self.new.inbound.clients.requests.unanswered.entries }
         ensures lost { OnErr result (Rose (P.meaning self.old.port).losses (P.meaning self.new.port).losses) }
     {
         self.quiet.note(bytes, self.now);

@@ -1,7 +1,7 @@
 //! What a datagram is by its first bytes, with or without the mark of a cluster.
 
-ghost use Rattle.std.specs.Prelude.{IfSome, IfOk};
-ghost use Rattle.crsm_port_flow.specs.Heads.{HasHead, IsAskedIn};
+ghost use Rattle.std.specs.Prelude.{◌↔◌, IfSome, IfOk, IsTrue};
+ghost use Rattle.crsm_port_flow.specs.Heads.{HasHead, IsAskedIn, IsReply};
 ghost use Rattle.crsm_port_flow.specs.Went.{IsPartIn};
 
 use crsm_base::{Datagram, NoMemory};
@@ -84,6 +84,8 @@ pub(crate) fn asked_in(alloc: Global, bytes: &[u8]) -> Result<Asked, NoMemory>
 }
 
 /// Returns whether the bytes are a reply.
-pub(crate) fn is_reply(bytes: &[u8]) -> bool {
+pub(crate) fn is_reply(bytes: &[u8]) -> bool
+    ensures { IsTrue result ↔ IsReply bytes.now }
+{
     matches!(unmarked(bytes), [5, ..])
 }

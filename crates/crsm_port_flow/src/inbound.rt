@@ -4,6 +4,8 @@ ghost use Rattle.std.specs.Prelude.{◌≡◌, ◌≢◌, ◌⊎◌, [], IfOk, I
 ghost use Rattle.crsm_port.specs.Passing.{NoMore};
 ghost use Rattle.crsm_port_flow.specs.Kept.{kept_in};
 ghost use Rattle.crsm_port_flow.specs.Order.{FirstGoes, IsNotDue, IsTheirTurn, LatestGoes, NextGoes, NoneGoes, OldestGoes};
+ghost use Rattle.crsm_port_flow.specs.Turns.{IsAnswered, IsReplyTo};
+ghost use Rattle.crsm_port_flow.specs.declared.commands.Command.{Command};
 
 use crate::clients::{Clients, NextAsked};
 use crate::heads::{ACK, head_in, is_reply};
@@ -101,7 +103,8 @@ impl Inbound {
 
     /// Records what a datagram says that the replica sends.
     pub(crate) fn note_sent(&mut self, bytes: &[u8])
-        ensures { NoMore (kept_in self.old) (kept_in self.new) }
+        ensures rest { NoMore (kept_in self.old) (kept_in self.new) }
+        ensures answered { (c : Command) → IsReplyTo c bytes.now → IsAnswered c self.new.clients.requests.unanswered.entries }
     {
         if let Some(expected) = head_in(ACK, bytes) {
             self.peers.note_expected(expected);

@@ -3,8 +3,8 @@
 ghost use Rattle.std.specs.Prelude.{◌≡◌, [], false, IfOk};
 ghost use Rattle.crsm_port.specs.Passing.{OneMore};
 ghost use Rattle.crsm_port_flow.specs.Acks.{held_in};
-ghost use Rattle.crsm_port_flow.specs.Order.{IsBehind};
 ghost use Rattle.crsm_port_flow.specs.Waits.{MayWait};
+ghost use Rattle.crsm_port_flow.specs.Windows.{IsBehind};
 
 use crate::acks::LastAcks;
 use crate::heads::{ACK, FRAME, head_in, part_in};

@@ -1,8 +1,8 @@
 //! Requests that wait until the node has room for them.
 
-ghost use Rattle.std.specs.Prelude.{◌≡◌, ◌⊎◌, ◌++◌, ◌∷◌, [], true, false, None, Contains, IfOk, IfSome, OnOk, OnErr};
+ghost use Rattle.std.specs.Prelude.{◌≡◌, ◌⊎◌, ◌++◌, ◌∷◌, [], true, false, None, Some, IfOk, IfSome, OnOk, OnErr};
 ghost use Rattle.crsm_port_flow.specs.Order.{HasNoRoom};
-ghost use Rattle.crsm_port_flow.specs.Turns.{AreInTime, IsOldestYoung, IsOver, IsSince, IsUnderWay, TakesFirst};
+ghost use Rattle.crsm_port_flow.specs.Turns.{AreInTime, IsAnswered, IsOldestYoung, IsOver, IsSince, IsUnderWay, OthersStay, TakesFirst, reading_of};
 
 use crate::commands::Command;
 use crate::datagram::Datagram;
@@ -173,7 +173,7 @@ impl Requests {
 
     /// Returns whether the node received the command at this reading, and has not answered it.
     fn is_open_since(&self, command: Command, reading: u64) -> bool
-        ensures { result ≡ true → Contains self.now.unanswered.entries (command, reading) }
+        ensures { result ≡ true → reading_of command self.now.unanswered.entries ≡ Some reading }
     {
         match self.unanswered.get(&command) {
             Some(since) => *since == reading,
@@ -212,9 +212,11 @@ impl Requests {
 
     /// Records that the node has answered a command.
     pub(crate) fn note_answered(&mut self, command: Command)
-        ensures { self.new.waiting ≡ self.old.waiting }
+        ensures waiting { self.new.waiting ≡ self.old.waiting }
+        ensures answered { IsAnswered command self.new.unanswered.entries }
+        ensures others { OthersStay command self.old.unanswered.entries self.new.unanswered.entries }
     {
-        let _ = self.unanswered.swap_remove(&command);
+        let _since = self.unanswered.swap_remove(&command);
     }
 }
 

@@ -1,7 +1,7 @@
 //! The frames of each link that were sent and are not acknowledged.
 
 ghost use Rattle.std.specs.Prelude.{◌≡◌, true};
-ghost use Rattle.crsm_port_flow.specs.Order.{IsBehind};
+ghost use Rattle.crsm_port_flow.specs.Windows.{IsBehind, has_past, most_under_way, under_way};
 
 use crate::heads::Head;
 use crate::time::is_recent;
@@ -27,7 +27,9 @@ struct Link {
 
 impl Link {
     /// Returns the number of frames on their way.
-    fn under_way(&self) -> u64 {
+    fn under_way(&self) -> u64
+        ensures { result ≡ under_way self.now }
+    {
         self.sent.saturating_sub(self.acknowledged)
     }
 }
@@ -101,9 +103,21 @@ impl Window {
     pub(crate) fn is_full(&self, now: u64) -> bool
         ensures { result ≡ true → IsBehind now self.now }
     {
-        let members = self.used.min(REPLICAS as u64) + 1;
-        let most = OF_EACH * members + MORE;
-        is_recent(self.since, now, PATIENCE)
-            && self.links.iter().any(|link| link.under_way() > most)
+        is_recent(self.since, now, PATIENCE) && has_past(&self.links, self.most_under_way())
     }
+
+    /// Returns the maximum number of frames on their way on a link at which requests are admitted.
+    fn most_under_way(&self) -> u64
+        ensures { result ≡ most_under_way self.now }
+    {
+        let members = self.used.min(REPLICAS as u64) + 1;
+        OF_EACH * members + MORE
+    }
+}
+
+/// Returns whether more than `most` frames are on their way on one of the links.
+fn has_past(links: &[Link], most: u64) -> bool
+    ensures { result ≡ has_past most links.now }
+{
+    links.iter().any(|link| link.under_way() > most)
 }

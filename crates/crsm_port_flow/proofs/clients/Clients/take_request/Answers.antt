@@ -8,7 +8,7 @@ use Rattle.crsm_port_flow.proofs.clients.Clients.take_request.Goals as goal
 pub returns-in_ok-datagram-in-Waits-clause-taken : goal.returns-in_ok-datagram-in-Waits-clause-taken
 returns-in_ok-datagram-in-Waits-clause-taken c = λ is_request.
     let r : Waiting = record { command = c.in-Some.command; datagram = c.in_ok-datagram-in-Waits.datagram; since = c.args.now } in
-    ok_map c.keep.result _ _ (λ more. inl (r, is_request, c.in-Some.ensures, c.in_ok-datagram-in-Waits.ensures, refl, more)) c.keep.ensures.last
+    ok_map c.keep.result _ _ (λ more. inl (r, is_request, c.in-Some.ensures.named, c.in_ok-datagram-in-Waits.ensures, refl, more)) c.keep.ensures.last
 
 pub returns-in_ok-datagram-in-Waits-clause-only : goal.returns-in_ok-datagram-in-Waits-clause-only
 returns-in_ok-datagram-in-Waits-clause-only c =

@@ -1,5 +1,5 @@
 use Rattle.std.proofs.Common.{◌≡◌, ◌∙◌, ◌<◌, Some, None, arith, length, refl, slice_index_or, sym}
-use Rattle.crsm_port_flow.proofs.Earlies.{item_any, not_some, set_has, set_stays}
+use Rattle.crsm_port_flow.proofs.Earlies.{item_any, set_has, set_stays}
 use Rattle.crsm_port_flow.specs.declared.early.Frame.{Frame}
 use Rattle.crsm_port_flow.proofs.early.Early.keep.Goals as goal
 
@@ -14,5 +14,5 @@ returns-in-Some-clause-stay c = λ f has.
     let k = c.place_of.result in
     let g : Frame = record { from = c.args.frame.from; number = c.args.frame.number; datagram = c.args.datagram } in
     let inside : k < length items = omega (arith, c.in-Some.ensures.variant.0 refl, c.args.self.now.frames.ok) in
-    let none : slice_index_or items k None ≡ None = item_any items k None c.in-Some.place.now inside ∙ sym c.in-Some.ensures.value ∙ not_some c.in-Some.place.now c.if-is_none.ensures in
+    let none : slice_index_or items k None ≡ None = item_any items k None c.in-Some.place.now inside ∙ sym c.in-Some.ensures.value ∙ c.if-is_free.ensures refl in
     set_stays items k (Some g) f none has
