@@ -40,7 +40,7 @@ exit "$fail"
 # crsm_cmd_soak 1
 # crsm_delay 1
 # crsm_mpledger 2
-# crsm_mpreplica 3
+# crsm_mpreplica 1
 # crsm_mpworld 9
 # crsm_replica 3
 # crsm_replica_output 2

@@ -11,10 +11,9 @@ ghost use Rattle.crsm_mpreplica.specs.State.{Makes, MpReplicaStands, waiting_of}
 
 use crate::same::is_command;
 use crsm_base::{Answer, Command, NoMemory};
-use crsm_mpledger::answers_are_by_slot;
+use crsm_mpledger::{Execution, executions_are_by_slot};
 use crsm_mpreplica::MpReplica;
 use crsm_mpspec::MpLine;
-use std::alloc::Global;
 
 /// Answers each waiting client whose slot is executed. The others continue to wait.
 pub(crate) fn replies(state: &mut MpReplica) -> Result<(), NoMemory>
@@ -59,28 +58,16 @@ fn answer_to(state: &MpReplica, slot: u64, command: &Command) -> Result<Option<A
     ensures { IfOk result (λ answer. (x : Draft) (v : Value) → MpReplicaStands state.now x → slice_get (executed x.replica.log) slot ≡ Some v →
         answer ≡ (when values.is_command command.now v then Some (values.answer_after (take slot (executed x.replica.log)) command.now) otherwise None)) }
 {
-    answers_are_by_slot();
+    executions_are_by_slot();
     let Some(value) = state.ledger().executed(slot) else {
         return Ok(None);
     };
     if !is_command(command, value) {
         return Ok(None);
     }
-    match state.ledger().answer(slot) {
-        Some(answer) => {
-            let copy = copy_answer(state.alloc(), answer)?;
-            Ok(copy)
-        }
-        None => Ok(None),
-    }
-}
-
-/// Returns a copy of an answer.
-fn copy_answer(alloc: Global, answer: &Option<Answer>) -> Result<Option<Answer>, NoMemory>
-    ensures { IfOk result (λ copy. copy ≡ answer.now) }
-{
-    match answer {
-        Some(answer) => Ok(Some(answer.copy(alloc)?)),
+    match state.ledger().execution(slot) {
+        Some(Execution::Applied { answer, .. }) => Ok(Some(answer.copy(state.alloc())?)),
+        Some(Execution::Noop) => Ok(None),
         None => Ok(None),
     }
 }

@@ -1,23 +1,28 @@
 -- The executed slots in memory.
-use Rattle.std.specs.Prelude.{◌≡◌, List, [], ◌∷◌, ◌++◌, Option}
-use Rattle.std.specs.Option.{option_map}
-use Rattle.crsm_mpspec.specs.Types.{Answer, Value}
+use Rattle.std.specs.Prelude.{◌≡◌, List, [], ◌∷◌, ◌++◌, None, Some}
+use Rattle.crsm_mpspec.specs.Types.{Value}
 use Rattle.crsm_mpspec.specs.Values.{answer_after, rows_after}
+use Rattle.crsm_mpledger.specs.declared.executions.Execution.{Execution}
 use Rattle.crsm_mpledger.specs.declared.executions.Executions.{Executions}
 
--- the answers to values after these; a noop has none
-unfoldable pub answers_behind : List Value → List Value → List (Option Answer)
-answers_behind done [] = []
-answers_behind done (v ∷ vs) = option_map (answer_after done) v ∷ answers_behind (done ++ v ∷ []) vs
+-- the execution of a value after these; a noop has no answer
+unfoldable pub execution_after : List Value → Value → Execution
+execution_after done None = Execution.Noop
+execution_after done (Some c) = Execution.Applied c.client c.number (answer_after done c)
 
--- the answers to executed values
-unfoldable pub answers_of : List Value → List (Option Answer)
-answers_of values = answers_behind [] values
+-- the executions of values after these
+unfoldable pub executions_behind : List Value → List Value → List Execution
+executions_behind done [] = []
+executions_behind done (v ∷ vs) = execution_after done v ∷ executions_behind (done ++ v ∷ []) vs
+
+-- the executions of values
+unfoldable pub executions_of : List Value → List Execution
+executions_of values = executions_behind [] values
 
 -- these values were executed
 pub record ExecutionsStand (executions : Executions) (values : List Value) : Type 0 where
   pub store : executions.store ≡ rows_after values
-  pub answers : executions.answers.items ≡ answers_of values
+  pub slots : executions.slots.items ≡ executions_of values
 
 -- for the values that were executed
 abbrev pub WhereExecuted : Executions → (List Value → Type 0) → Type 0

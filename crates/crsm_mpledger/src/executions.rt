@@ -1,46 +1,61 @@
 //! The executed slots.
 
-ghost use Rattle.std.specs.Prelude.{◌≡◌, ℕ, List, [], ◌∷◌, ◌++◌, length, slice_get, IfOk, OnOk};
+ghost use Rattle.std.specs.Prelude.{◌≡◌, ℕ, List, [], ◌∷◌, ◌++◌, length, slice_get, ◌≤◌, IfOk, IsNone, OnOk};
 ghost use Rattle.std.specs.Option.{option_copied};
 ghost use Rattle.crsm_mpspec.specs.Types.{Value};
-ghost use Rattle.crsm_mpledger.specs.Executed.{ExecutionsStand, WhereExecuted, answers_of};
+ghost use Rattle.crsm_mpledger.specs.Executed.{ExecutionsStand, WhereExecuted, executions_of};
 
 use crsm_base::{Answer, Command, NoMemory};
 use crsm_kv::Store;
 use std::alloc::Global;
 
-/// The store after the executed slots, which are the first ones, and its answers by slot. A noop has no answer.
+/// The execution of a slot.
+#[derive(Debug, Drop)]
+pub enum Execution {
+    /// A noop was executed.
+    Noop,
+    /// A client's command was executed, with the store's answer.
+    Applied {
+        client: u64,
+        number: u64,
+        answer: Answer,
+    },
+}
+
+/// The store after the executed slots, which are the first ones, and their executions by slot.
 #[derive(Drop)]
 pub(crate) struct Executions {
     store: Store,
-    answers: Vec<Option<Answer>>,
+    slots: Vec<Execution>,
 }
 
 impl Executions {
     /// Returns the state before any slot was executed. `NoMemory` if memory runs out.
-    #[tactic(auto, unfolding(crate::specs::Executed::answers_of, crate::specs::Executed::answers_behind, crsm_mpspec::specs::Values::rows_after))]
+    #[tactic(auto, unfolding(crate::specs::Executed::executions_of, crate::specs::Executed::executions_behind, crsm_mpspec::specs::Values::rows_after))]
     pub(crate) fn new(alloc: Global) -> Result<Executions, NoMemory>
         ensures { IfOk result (λ executions. ExecutionsStand executions []) }
     {
         Ok(Executions {
             store: Store::new(alloc)?,
-            answers: Vec::new(alloc),
+            slots: Vec::new(alloc),
         })
     }
 
     /// Returns the number of executed slots.
     #[tactic(auto, using(crate::proofs::ExecutedLemmas::executed_rules))]
     pub(crate) fn len(&self) -> u64
-        ensures { WhereExecuted self.now (λ values. result ≡ length values) }
+        ensures value { WhereExecuted self.now (λ values. result ≡ length values) }
+        ensures count { result ≡ length self.now.slots.items }
     {
-        self.answers.len() as u64
+        self.slots.len() as u64
     }
 
-    /// Returns the answer at a slot, or `None` if it is not executed.
-    pub(crate) fn answer(&self, slot: u64) -> Option<&Option<Answer>>
-        ensures { WhereExecuted self.now (λ values. option_copied result ≡ slice_get (answers_of values) slot) }
+    /// Returns the execution of a slot, or `None` if it is not executed.
+    pub(crate) fn get(&self, slot: u64) -> Option<&Execution>
+        ensures value { WhereExecuted self.now (λ values. option_copied result ≡ slice_get (executions_of values) slot) }
+        ensures past { IsNone result → length self.now.slots.items ≤ slot }
     {
-        self.answers.get(slot as usize)
+        self.slots.get(slot as usize)
     }
 
     /// Executes the next slot. `NoMemory` if memory runs out.
@@ -50,12 +65,16 @@ impl Executions {
     {
         match value {
             None => {
-                self.answers.push(None)?;
+                self.slots.push(Execution::Noop)?;
                 Ok(())
             }
             Some(command) => {
                 let answer = self.store.apply(command)?;
-                self.answers.push(Some(answer))?;
+                self.slots.push(Execution::Applied {
+                    client: command.client,
+                    number: command.number,
+                    answer,
+                })?;
                 Ok(())
             }
         }

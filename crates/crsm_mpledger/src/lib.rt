@@ -15,6 +15,7 @@ mod reports;
 mod value;
 
 pub use body::{put_body, take_body};
-pub use laws::{answers_are_by_slot, executed_slots_grow};
+pub use executions::Execution;
+pub use laws::{executed_slots_grow, executions_are_by_slot};
 pub use ledger::MpLedger;
 pub use rec::{put_rec, take_rec};

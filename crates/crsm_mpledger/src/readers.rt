@@ -1,13 +1,14 @@
 //! Readers of a ledger.
 
-ghost use Rattle.std.specs.Prelude.{◌≡◌, length, slice_get};
+ghost use Rattle.std.specs.Prelude.{◌≡◌, ◌≤◌, length, slice_get, IsNone};
 ghost use Rattle.std.specs.Option.{option_copied};
 ghost use Rattle.crsm_mpspec.specs.Log as logs;
-ghost use Rattle.crsm_mpledger.specs.Executed.{answers_of};
-ghost use Rattle.crsm_mpledger.specs.MpLedger.{WhereLedger};
+ghost use Rattle.crsm_mpledger.specs.Executed.{executions_of};
+ghost use Rattle.crsm_mpledger.specs.MpLedger.{WhereLedger, executed_in};
 
+use crate::executions::Execution;
 use crate::ledger::MpLedger;
-use crsm_base::{Answer, Ballot, Command};
+use crsm_base::{Ballot, Command};
 
 impl MpLedger {
     /// Returns the number of boots of the replica.
@@ -40,7 +41,8 @@ impl MpLedger {
 
     /// Returns the number of executed slots.
     pub fn executed_len(&self) -> u64
-        ensures { WhereLedger self.now (λ log. result ≡ length (logs.executed log)) }
+        ensures value { WhereLedger self.now (λ log. result ≡ length (logs.executed log)) }
+        ensures count { result ≡ executed_in self.now }
     {
         self.executions.len()
     }
@@ -56,10 +58,11 @@ impl MpLedger {
         }
     }
 
-    /// Returns the store's answer at a slot, which a noop has not, or `None` if the slot is not executed.
-    pub fn answer(&self, slot: u64) -> Option<&Option<Answer>>
-        ensures { WhereLedger self.now (λ log. option_copied result ≡ slice_get (answers_of (logs.executed log)) slot) }
+    /// Returns the execution of a slot, or `None` if it is not executed.
+    pub fn execution(&self, slot: u64) -> Option<&Execution>
+        ensures value { WhereLedger self.now (λ log. option_copied result ≡ slice_get (executions_of (logs.executed log)) slot) }
+        ensures past { IsNone result → executed_in self.now ≤ slot }
     {
-        self.executions.answer(slot)
+        self.executions.get(slot)
     }
 }

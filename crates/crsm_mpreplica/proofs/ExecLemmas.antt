@@ -1,10 +1,12 @@
 -- The lines of executed slots, with one more.
-use Rattle.std.proofs.Common.{◌≡◌, ℕ, zero, suc, ◌+◌, ◌-◌, ◌≤◌, List, [], ◌∷◌, ◌++◌, Some, refl, ap, sym, ◌∙◌, append_assoc, arith}
+use Rattle.std.proofs.Common.{◌≡◌, ℕ, zero, suc, ◌+◌, ◌-◌, ◌≤◌, List, [], ◌∷◌, ◌++◌, length, Some, None, refl, ap, sym, ◌∙◌, append_assoc, arith}
 use Rattle.std.specs.Prelude.{Option, slice_get, take, drop}
 use Rattle.crsm_fact_log.proofs.Lists.{append-none}
 use Rattle.crsm_mpspec.specs.declared.line.MpLine.{MpLine}
-use Rattle.crsm_mpspec.specs.Types.{Value}
+use Rattle.crsm_mpspec.specs.Types.{Answer, Value}
 use Rattle.crsm_mpspec.specs.Draft.{exec_line, exec_lines}
+use Rattle.crsm_mpledger.specs.declared.executions.Execution.{Execution}
+use Rattle.crsm_mpledger.specs.Executed.{execution_after}
 
 exec-snoc : (me : ℕ) (done vs : List Value) (v : Value) → exec_lines me done (vs ++ v ∷ []) ≡ exec_lines me done vs ++ exec_line me (done ++ vs) v ∷ []
 unfolding exec_lines
@@ -61,3 +63,19 @@ told-next lines me f k vs v most e =
     (ap (λ (us : List Value). exec_lines me (take f vs) (take (k - f) (drop f vs)) ++ exec_line me us v ∷ []) (sym (taken_so_far f k vs most))
     ∙ sym (exec-snoc me (take f vs) (take (k - f) (drop f vs)) v)
     ∙ ap (λ (us : List Value). exec_lines me (take f vs) us) (sym (take_more_behind f k vs v most e)))
+
+pub one_some : {X : Type 0} (x y : X) → Some x ≡ Some y → x ≡ y
+one_some x y e = cc
+
+-- the line of a noop
+pub line-noop : (me slot : ℕ) (done : List Value) (v : Value) → slot ≡ length done → Execution.Noop ≡ execution_after done v → MpLine.ExecNoop me slot ≡ exec_line me done v
+unfolding exec_line execution_after
+line-noop me slot done None place e = ap (λ (k : ℕ). MpLine.ExecNoop me k) place
+line-noop me slot done (Some c) place e = absurd cc
+
+-- and that of a command
+pub line-applied : (me slot client number : ℕ) (a : Answer) (done : List Value) (v : Value) → slot ≡ length done → Execution.Applied client number a ≡ execution_after done v
+    → MpLine.Exec me slot client number a ≡ exec_line me done v
+unfolding exec_line execution_after
+line-applied me slot client number a done None place e = absurd cc
+line-applied me slot client number a done (Some c) place e = cc

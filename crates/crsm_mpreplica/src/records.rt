@@ -1,7 +1,6 @@
 //! The records of a step, and their lines.
 
-ghost use Rattle.std.specs.Prelude.{◌≡◌, ◌<◌, ◌≤◌, ◌++◌, ◌∷◌, [], List, Some, length, slice_get, take, drop, OnOk, IfOk};
-ghost use Rattle.std.specs.Option.{option_map};
+ghost use Rattle.std.specs.Prelude.{◌≡◌, ◌<◌, ◌≤◌, ◌++◌, ◌∷◌, [], List, Some, length, take, drop, OnOk, IfOk};
 ghost use Rattle.crsm_base.specs.Spelling.{FitsBallot, FitsCommand, FitsOption};
 ghost use Rattle.crsm_spec.specs.Clock.{u64_max};
 ghost use Rattle.crsm_mpspec.specs.Deciding as deciding;
@@ -9,11 +8,11 @@ ghost use Rattle.crsm_mpspec.specs.Draft as drafts;
 ghost use Rattle.crsm_mpspec.specs.Draft.{exec_lines};
 ghost use Rattle.crsm_mpspec.specs.Log.{Log, executed};
 ghost use Rattle.crsm_mpspec.specs.Types.{Value};
-ghost use Rattle.crsm_mpspec.specs.Values.{answer_after};
 ghost use Rattle.crsm_mpspec.specs.Records.{FitsRec};
 ghost use Rattle.crsm_mpspec.specs.declared.line.MpLine.{MpLine as Line};
 ghost use Rattle.crsm_mpspec.specs.declared.rec.MpRec.{MpRec as Record};
 ghost use Rattle.crsm_mpledger.specs.MpLedger.{MpLedgerStands, WhereLedger};
+ghost use Rattle.crsm_mpledger.specs.Executed.{execution_after};
 ghost use Rattle.crsm_mpledger.specs.Sound.{MayFollow};
 ghost use Rattle.crsm_mpreplica.specs.Fitting.{FitsAccept, FitsChoice};
 ghost use Rattle.crsm_mpreplica.specs.Made.{MadeStands, Outcome};
@@ -22,8 +21,8 @@ ghost use Rattle.crsm_mpreplica.specs.State.{MakesWhere};
 use crate::made::StepOutput;
 use crate::note::{Note, close, end_below};
 use crate::state::MpReplica;
-use crsm_base::{Answer, Ballot, Command, NoMemory, never};
-use crsm_mpledger::{MpLedger, answers_are_by_slot, executed_slots_grow};
+use crsm_base::{Ballot, Command, NoMemory};
+use crsm_mpledger::{Execution, MpLedger, executed_slots_grow, executions_are_by_slot};
 use crsm_mpspec::{MpLine, MpRec, copy_value};
 use std::alloc::Global;
 
@@ -158,51 +157,40 @@ fn tell_executed(
     ensures { OnOk result ((log : Log) (o : Outcome) → MpLedgerStands ledger.now log → first ≤ length (executed log) → MadeStands made.old o →
         MadeStands made.new (record o { lines = o.lines ++ exec_lines me (take first (executed log)) (drop first (executed log)) })) }
 {
+    executions_are_by_slot();
     for slot in first..ledger.executed_len() {
-        let line = exec_line(alloc, me, ledger, slot)?;
+        let Some(execution) = ledger.execution(slot) else {
+            unreachable!();
+        };
+        let line = exec_line(alloc, me, slot, execution)?;
         made.tell(line)?;
     }
     Ok(())
 }
 
-/// Returns the line of an executed slot.
-fn exec_line(alloc: Global, me: u32, ledger: &MpLedger, slot: u64) -> Result<MpLine, NoMemory>
-    ensures { IfOk result (λ line. (log : Log) (v : Value) → MpLedgerStands ledger.now log → slice_get (executed log) slot ≡ Some v →
-        line ≡ drafts.exec_line me (take slot (executed log)) v) }
-{
-    answers_are_by_slot();
-    let (Some(value), Some(answer)) = (ledger.executed(slot), ledger.answer(slot)) else {
-        // The slot is executed.
-        return Err(never());
-    };
-    let line = line_of(alloc, me, slot, value, answer)?;
-    Ok(line)
-}
-
-#[tactic(auto, unfolding(crsm_mpspec::specs::Draft::exec_line))]
-/// Returns the line of a value executed at a slot, with the answer of the store.
-fn line_of(
+/// Returns the line of the execution of a slot.
+#[tactic(auto, unfolding(crsm_mpspec::specs::Draft::exec_line, crsm_mpledger::specs::Executed::execution_after))]
+fn exec_line(
     alloc: Global,
     replica: u32,
     slot: u64,
-    value: &Option<Command>,
-    answer: &Option<Answer>,
+    execution: &Execution,
 ) -> Result<MpLine, NoMemory>
-    ensures { IfOk result (λ line. (done : List Value) → slot ≡ length done → answer.now ≡ option_map (answer_after done) value.now →
-        line ≡ drafts.exec_line replica done value.now) }
+    ensures { IfOk result (λ line. (done : List Value) (v : Value) → slot ≡ length done → execution.now ≡ execution_after done v →
+        line ≡ drafts.exec_line replica done v) }
 {
-    let Some(command) = value else {
-        return Ok(MpLine::ExecNoop { replica, slot });
-    };
-    let Some(answer) = answer else {
-        // A command has an answer.
-        return Err(never());
-    };
-    Ok(MpLine::Exec {
-        replica,
-        slot,
-        client: command.client,
-        number: command.number,
-        answer: answer.copy(alloc)?,
-    })
+    match execution {
+        Execution::Noop => Ok(MpLine::ExecNoop { replica, slot }),
+        Execution::Applied {
+            client,
+            number,
+            answer,
+        } => Ok(MpLine::Exec {
+            replica,
+            slot,
+            client: *client,
+            number: *number,
+            answer: answer.copy(alloc)?,
+        }),
+    }
 }

@@ -22,7 +22,7 @@ loop-slot-preserved c x s =
     let a = c.args.start in
     let k = c.loop-slot.slot in
     let vs = executed x.replica.log in
-    let len = c.executed_len.ensures x.replica.log (c.ledger.ensures x s) in
+    let len = c.executed_len.ensures.value x.replica.log (c.ledger.ensures x s) in
     let below : k < length vs = omega (arith, len, c.min-end.ensures, c.loop-slot-test.true) in
     let v = some-at vs k below in
     let before = take (k - a) (drop a (enumerate_from 0 vs)) in
@@ -39,7 +39,7 @@ unfolding on_ask
 returns c x s =
     let a = c.args.start in
     let vs = executed x.replica.log in
-    let len = c.executed_len.ensures x.replica.log (c.ledger.ensures x s) in
+    let len = c.executed_len.ensures.value x.replica.log (c.ledger.ensures x s) in
     let rest = drop a (enumerate_from 0 vs) in
     let count = dropped-len a (enumerate_from 0 vs) in
     let all = numbered-len 0 vs in

@@ -16,7 +16,7 @@ returns c x s =
     let z = propose_all_again y in
     let stands = c.in_ok-propose_all_again.ensures y (c.in_ok-ask_again.ensures x s) in
     let same = again-replica y ∙ ask-replica x in
-    let start : c.executed_len-start.result ≡ length (executed x.replica.log) = c.executed_len-start.ensures z.replica.log (c.ledger.ensures z stands) ∙ ap (λ (r : Replica). length (executed r.log)) same in
+    let start : c.executed_len-start.result ≡ length (executed x.replica.log) = c.executed_len-start.ensures.value z.replica.log (c.ledger.ensures z stands) ∙ ap (λ (r : Replica). length (executed r.log)) same in
     let sent = c.in_ok-send_to_others.ensures z stands tt in
     subst (λ (w : Draft). MpReplicaStands c.send_to_others.new.self (send_to_others (MpMessage.Ask (length (executed x.replica.log))) w)) (renews x)
     (subst (λ (k : ℕ). MpReplicaStands c.send_to_others.new.self (send_to_others (MpMessage.Ask k) z)) start sent)
