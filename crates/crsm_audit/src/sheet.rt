@@ -6,7 +6,6 @@ ghost use Rattle.crsm_replica_rerun.specs.Stages.{IsRefusal};
 ghost use Rattle.crsm_audit.specs.State.{SheetAdvances, WhereSheetStands};
 
 use crate::Account;
-use crsm_base::never;
 use crsm_fact_step::batches_are_logged;
 use crsm_law_sheets::executed_lists_grow;
 use crsm_replica_rerun::{Rerun, RerunError};
@@ -32,10 +31,6 @@ pub(crate) fn advance(
         account.find(bytes.as_slice())?;
         return Ok(());
     }
-    // After a line that is not a body the replica has a log.
-    let Some(ledger) = rerun.ledger() else {
-        return Err(RerunError::from(never()));
-    };
-    account.take(at, &batch, ledger)?;
+    account.take(at, &batch, rerun.ledger())?;
     Ok(())
 }

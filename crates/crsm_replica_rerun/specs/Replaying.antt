@@ -12,7 +12,7 @@ use Rattle.crsm_text_sheet.specs.declared.line.SheetLine.{SheetLine}
 use Rattle.crsm_text_sheet.specs.Sheets.{sheet_of}
 use Rattle.crsm_replica_rerun.specs.declared.rerun.Rerun.{Rerun}
 use Rattle.crsm_replica_rerun.specs.Sheets.{IsSheet, LeadTo, replica_of, steps_of}
-use Rattle.crsm_replica_rerun.specs.Stages.{AnswersAll, StageStands}
+use Rattle.crsm_replica_rerun.specs.Stages.{AnswersAll, IsOpen, IsOpenBehind, StageStands}
 use Rattle.crsm_replica_rerun.specs.Texts.{IsNodeText, ending_of, shown_text}
 
 -- The replay is that of a sheet of replica me, in a cluster that began with n. These lines of the sheet were read, the
@@ -32,7 +32,15 @@ WhereStands rerun P = (me n first : ℕ) (lines : List SheetLine) (steps : List 
 abbrev pub next_of : Rerun → ℕ
 next_of rerun = rerun.next
 
+-- the log was opened
+abbrev pub HasOpened : Rerun → Type 0
+HasOpened rerun = IsOpen rerun.stage
+
 -- ---- a line
+
+-- it is open behind each line but a body
+abbrev pub OpenedBehind : SheetLine → Rerun → Type 0
+OpenedBehind line rerun = IsOpenBehind line rerun.stage
 
 -- The line leads to these further steps, which the batch answers.
 pub record Advances (me n first : ℕ) (new : Rerun) (lines : List SheetLine) (steps : List Draft) (line : SheetLine) (batch : Batch) : Type 0 where

@@ -12,7 +12,7 @@ use Rattle.crsm_replica_output.specs.declared.batch.Batch.{Batch}
 use Rattle.crsm_core.specs.declared.replica.Core.{Core}
 use Rattle.crsm_core.specs.Core.{Answers, CoreStands, FitsSent, IsSpent}
 use Rattle.crsm_text_sheet.specs.declared.line.SheetLine.{SheetLine}
-use Rattle.crsm_text_sheet.specs.declared.line.SheetLine.TheVariants.{Open}
+use Rattle.crsm_text_sheet.specs.declared.line.SheetLine.TheVariants.{Entry, Open}
 use Rattle.crsm_text_sheet.specs.Sheets.{entry_line}
 use Rattle.crsm_replica_rerun.specs.declared.error.RerunError.{RerunError}
 use Rattle.crsm_replica_rerun.specs.declared.error.RerunError.TheVariants as errors
@@ -89,6 +89,16 @@ StageStands me n (stages.Running core) lines steps = Runs me n core.value lines 
 abbrev pub IsSound : SheetStage → Type 0
 IsSound (stages.Finding bodies) = Unit {0}
 IsSound (stages.Running core) = IsUsable core.value
+
+-- the log was opened
+abbrev pub IsOpen : SheetStage → Type 0
+IsOpen (stages.Finding bodies) = ⊥
+IsOpen (stages.Running core) = Unit {0}
+
+-- it is open behind each line but a body
+abbrev pub IsOpenBehind : SheetLine → SheetStage → Type 0
+IsOpenBehind (Entry bytes) stage = Unit {0}
+IsOpenBehind _ stage = IsOpen stage
 
 -- The line leads from the old stage to the new one, with these further steps, which the batch answers.
 pub record StageAdvances (me n : ℕ) (new : SheetStage) (lines : List SheetLine) (steps : List Draft) (line : SheetLine) (batch : Batch) : Type 0 where

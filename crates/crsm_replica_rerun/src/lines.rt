@@ -5,7 +5,7 @@ ghost use Rattle.std.specs.List.{AllByRecursion};
 ghost use Rattle.crsm_base.specs.Records.{FitsRec};
 ghost use Rattle.crsm_core.specs.Core.{FitsSent};
 ghost use Rattle.crsm_replica_rerun.specs.Stages.{IsRefusal};
-ghost use Rattle.crsm_replica_rerun.specs.Replaying.{AddsText, Advances, Ends, IsNoSheet, RerunStands, SaysLog, WhereStands, next_of};
+ghost use Rattle.crsm_replica_rerun.specs.Replaying.{AddsText, Advances, Ends, HasOpened, IsNoSheet, OpenedBehind, RerunStands, SaysLog, WhereStands, next_of};
 
 use crate::ending::ending;
 use crate::error::RerunError;
@@ -51,6 +51,7 @@ impl Rerun {
         requires { next_of self.old < 2 ^ 64 - 1 }
         ensures advances { WhereStands self.old (λ me n first lines steps. IfOk result (Advances me n first self.new lines steps line.now)) }
         ensures refused { WhereStands self.old (λ me n first lines steps. IfErr result (IsRefusal me n lines line.now)) }
+        ensures opened { OnOk result (OpenedBehind line.now self.new) }
         ensures records { IfOk result (λ batch. AllByRecursion FitsRec batch.records) }
         ensures spelt { IfOk result (λ batch. AllByRecursion FitsSent batch.sends) }
         ensures next { OnOk result (next_of self.new ≡ next_of self.old + 1) }
@@ -85,13 +86,14 @@ impl Rerun {
         }
     }
 
-    /// Returns the ledger of the replica, or `None` if the lines replayed are not a sheet.
-    pub fn ledger(&self) -> Option<&Ledger>
-        ensures { WhereStands self.now (λ me n first lines steps. MatchOption result (IsNoSheet lines) (λ ledger. SaysLog me n lines steps ledger.now)) }
+    /// Returns the ledger of the replica, which has booted.
+    pub fn ledger(&self) -> &Ledger
+        requires { HasOpened self.now }
+        ensures { WhereStands self.now (λ me n first lines steps. SaysLog me n lines steps result.now) }
     {
         match &self.stage {
-            SheetStage::Finding { .. } => None,
-            SheetStage::Running { core } => Some(core.ledger()),
+            SheetStage::Finding { .. } => unreachable!(),
+            SheetStage::Running { core } => core.ledger(),
         }
     }
 }

@@ -1,8 +1,8 @@
 //! The stages of a replay.
 
-ghost use Rattle.std.specs.Prelude.{◌≡◌, ◌<◌, ◌≤◌, ℕ, IfOk};
+ghost use Rattle.std.specs.Prelude.{◌≡◌, ◌<◌, ◌≤◌, ℕ, IfOk, OnOk};
 ghost use Rattle.crsm_text_sheet.specs.declared.line.SheetLine.{SheetLine};
-ghost use Rattle.crsm_replica_rerun.specs.Stages.{IsSound, IsSpelt, TakesLine};
+ghost use Rattle.crsm_replica_rerun.specs.Stages.{IsOpen, IsOpenBehind, IsSound, IsSpelt, TakesLine};
 
 use crate::boot::boot;
 use crate::error::RerunError;
@@ -32,6 +32,7 @@ impl SheetStage {
         requires some { 1 ≤ n }
         requires few { n ≤ 15 }
         ensures takes { TakesLine me n self.old line.now result self.new }
+        ensures opened { OnOk result (IsOpenBehind line.now self.new) }
         ensures sound { IsSound self.old → IsSound self.new }
         ensures spelt { IsSound self.old → IfOk result IsSpelt }
     {
@@ -67,6 +68,7 @@ impl SheetStage {
         requires some { 1 ≤ n }
         requires few { n ≤ 15 }
         ensures takes { TakesLine me n self.old SheetLine.Open result self.new }
+        ensures opened { OnOk result (IsOpen self.new) }
         ensures sound { IsSound self.old → IsSound self.new }
         ensures spelt { IfOk result IsSpelt }
     {
@@ -87,6 +89,7 @@ impl SheetStage {
         bytes: &[u8],
     ) -> Result<Batch, RerunError>
         ensures takes { (me n : ℕ) → TakesLine me n self.old (SheetLine.In reading address bytes.now) result self.new }
+        ensures opened { OnOk result (IsOpen self.new) }
         ensures sound { IsSound self.old → IsSound self.new }
         ensures spelt { IsSound self.old → IfOk result IsSpelt }
     {
@@ -100,6 +103,7 @@ impl SheetStage {
     /// Steps the replica on a tick.
     fn tick(&mut self, reading: u64) -> Result<Batch, RerunError>
         ensures takes { (me n : ℕ) → TakesLine me n self.old (SheetLine.Tick reading) result self.new }
+        ensures opened { OnOk result (IsOpen self.new) }
         ensures sound { IsSound self.old → IsSound self.new }
         ensures spelt { IsSound self.old → IfOk result IsSpelt }
     {
@@ -118,6 +122,7 @@ impl SheetStage {
         members: &Members,
     ) -> Result<Batch, RerunError>
         ensures takes { (me n : ℕ) → TakesLine me n self.old (SheetLine.Suspect reading members.now) result self.new }
+        ensures opened { OnOk result (IsOpen self.new) }
         ensures sound { IsSound self.old → IsSound self.new }
         ensures spelt { IsSound self.old → IfOk result IsSpelt }
     {
