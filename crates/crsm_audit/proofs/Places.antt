@@ -9,6 +9,7 @@ use Rattle.crsm_spec.specs.Node.{Turn}
 use Rattle.crsm_text_sheet.specs.declared.line.SheetLine.{SheetLine}
 use Rattle.crsm_text_sheet.specs.declared.line.SheetLine.TheVariants.{Entry, Open, In, Tick, Suspect}
 use Rattle.crsm_text_sheet.specs.Sheets.{entry_line, sheet_of, turn_line}
+use Rattle.crsm_replica_rerun.specs.Sheets.{BeginASheet}
 use Rattle.crsm_audit.specs.Lines.{BeginAnAudit, IsAnAudit, NamedSheet, follows, lines_of, progress_after}
 use Rattle.crsm_audit.specs.declared.line.AuditLine.{AuditLine}
 use Rattle.crsm_audit.specs.declared.line.AuditLine.TheVariants.{Node, Sheet}
@@ -127,6 +128,44 @@ begin_leads ls b none =
 -- a line that may not follow is that of no audit
 pub not_followed : (p : Progress) (ls : List AuditLine) (l : AuditLine) → progress_after Before ls ≡ Some p → follows p l ≡ None → BeginAnAudit (ls ++ l ∷ []) → ⊥
 not_followed p ls l e none b = begin_leads (ls ++ l ∷ []) b (progress_more Before p ls l e ∙ none)
+
+-- ---- the lines of one sheet
+
+-- lines of one sheet alone are those that it begins with
+prefix_of : (xs zs : List SheetLine) (more : List AuditLine) (named : List NamedSheet) → map Sheet xs ++ more ≡ map Sheet zs ++ flat_map lines_of named
+    → (rest : List SheetLine) × (xs ++ rest ≡ zs)
+prefix_of [] zs more named e = (zs, refl)
+prefix_of (x ∷ xs) [] more [] e = absurd (cc)
+prefix_of (x ∷ xs) [] more (s ∷ named) e = absurd (cc)
+prefix_of (x ∷ xs) (z ∷ zs) more named e =
+    let head : x ≡ z = cc in
+    let tails : map Sheet xs ++ more ≡ map Sheet zs ++ flat_map lines_of named = cc in
+    let r = prefix_of xs zs more named tails in
+    (r.0, ap (λ (l : SheetLine). l ∷ (xs ++ r.0)) head ∙ ap (λ (ls : List SheetLine). z ∷ ls) r.1)
+
+-- what stands behind a line that names a node begins a sheet
+begins_one : (before : List AuditLine) (zs : List SheetLine) (named : List NamedSheet) (me : ℕ) (xs : List SheetLine) (more : List AuditLine)
+    → before ++ Node me ∷ (map Sheet xs ++ more) ≡ map Sheet zs ++ flat_map lines_of named → BeginASheet xs
+begins_one [] (z ∷ zs) named me xs more e = absurd (cc)
+begins_one [] [] [] me xs more e = absurd (cc)
+begins_one (b ∷ before) [] [] me xs more e = absurd (cc)
+begins_one [] [] (s ∷ named) me xs more e =
+    let tails : map Sheet xs ++ more ≡ map Sheet (sheet_of s.bodies s.turns) ++ flat_map lines_of named = cc in
+    let r = prefix_of xs (sheet_of s.bodies s.turns) more named tails in
+    record { bodies = s.bodies; turns = s.turns; more = r.0; is = r.1 }
+begins_one (b ∷ before) [] (s ∷ named) me xs more e =
+    let tails : before ++ Node me ∷ (map Sheet xs ++ more) ≡ map Sheet (sheet_of s.bodies s.turns) ++ flat_map lines_of named = cc in
+    begins_one before (sheet_of s.bodies s.turns) named me xs more tails
+begins_one (b ∷ before) (z ∷ zs) named me xs more e =
+    let tails : before ++ Node me ∷ (map Sheet xs ++ more) ≡ map Sheet zs ++ flat_map lines_of named = cc in
+    begins_one before zs named me xs more tails
+
+-- lines that begin no sheet are in no audit
+pub no_line : (ls before : List AuditLine) (me : ℕ) (xs : List SheetLine) → ls ≡ before ++ Node me ∷ map Sheet xs → (BeginASheet xs → ⊥) → BeginAnAudit ls → ⊥
+no_line ls before me xs is none b =
+    none (begins_one before [] b.named me xs b.more (
+    sym (append_assoc before (Node me ∷ map Sheet xs) b.more) ∙ ap (λ (x : List AuditLine). x ++ b.more) (sym is) ∙ b.is
+    ))
 
 -- ---- the form of lines with this progress
 

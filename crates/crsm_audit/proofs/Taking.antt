@@ -9,7 +9,7 @@ use Rattle.crsm_law_sheets.specs.Sheets.{Sheet, log_after}
 use Rattle.crsm_fact_log.specs.Logs.{AllFit, AreSpelt}
 use Rattle.crsm_replica_rerun.specs.declared.rerun.Rerun.{Rerun}
 use Rattle.crsm_replica_rerun.specs.Replaying.{RerunStands}
-use Rattle.crsm_replica_rerun.specs.Sheets.{HoldBadLog as HasBadLog, LeadTo, Replays}
+use Rattle.crsm_replica_rerun.specs.Sheets.{BeginASheet, HoldBadLog as HasBadLog, LeadTo, Replays}
 use Rattle.crsm_text_sheet.specs.declared.line.SheetLine.{SheetLine}
 use Rattle.crsm_text_sheet.specs.declared.line.SheetLine.TheVariants.{Open}
 use Rattle.crsm_text_sheet.specs.declared.line.SheetLine.TheVariants as written
@@ -35,7 +35,7 @@ use Rattle.crsm_audit.specs.declared.line.Progress.{Progress}
 use Rattle.crsm_audit.specs.declared.line.Progress.TheVariants.{Before, Finding, Running}
 use Rattle.crsm_audit.proofs.Logs.{any_start, lines_count, some_steps, steps_count}
 use Rattle.crsm_audit.proofs.Parts.{accounts_more, sheets_more, with_last}
-use Rattle.crsm_audit.proofs.Places.{bodies_do_not_run, leads_begin, progress_more, running_is_whole, whole_runs}
+use Rattle.crsm_audit.proofs.Places.{bodies_do_not_run, leads_begin, no_line, not_followed, progress_more, running_is_whole, whole_runs}
 
 -- ---- the first line
 
@@ -157,18 +157,14 @@ all_done audit ls me p s none next =
 
 -- ---- one more line of the current sheet
 
+no_snoc : (xs : List Account) (x : Account) → [] ≡ xs ++ x ∷ [] → ⊥
+no_snoc [] x e = cc
+no_snoc (z ∷ xs) x e = cc
+
 same_accounts : (xs ys : List Account) (x y : Account) → xs ++ x ∷ [] ≡ ys ++ y ∷ [] → (xs ≡ ys) × (x ≡ y)
 same_accounts [] [] x y e = (refl, cc)
 same_accounts [] (z ∷ ys) x y e = let tails : [] ≡ ys ++ y ∷ [] = cc in absurd (no_snoc ys y tails)
-  where
-    no_snoc : (ys : List Account) (y : Account) → [] ≡ ys ++ y ∷ [] → ⊥
-    no_snoc [] y e = cc
-    no_snoc (z ∷ ys) y e = cc
-same_accounts (z ∷ xs) [] x y e = let tails : xs ++ x ∷ [] ≡ [] = cc in absurd (no_snoc xs x tails)
-  where
-    no_snoc : (xs : List Account) (x : Account) → xs ++ x ∷ [] ≡ [] → ⊥
-    no_snoc [] x e = cc
-    no_snoc (z ∷ xs) x e = cc
+same_accounts (z ∷ xs) [] x y e = let tails : xs ++ x ∷ [] ≡ [] = cc in absurd (no_snoc xs x (sym tails))
 same_accounts (z ∷ xs) (w ∷ ys) x y e =
     let head : z ≡ w = cc in
     let tails : xs ++ x ∷ [] ≡ ys ++ y ∷ [] = cc in
@@ -320,6 +316,42 @@ takes_sheet old new ls l rest popped after rerun now none n_is same popped_is re
     subst (λ (o : Option BadLog). IsKnown new.n o p new.rerun new.accounts.items (ls ++ lines.Sheet l ∷ [])) (sym (same ∙ none))
     (subst (λ (k : ℕ). Replayed k p new.rerun new.accounts.items (ls ++ lines.Sheet l ∷ [])) (sym n_is)
     (known_at_hand old.n p old.progress l new.rerun new.accounts.items (ls ++ lines.Sheet l ∷ []) next hand))
+
+-- ---- a line of a sheet that is refused
+
+none_before : (l : SheetLine) → follows Before (lines.Sheet l) ≡ None
+none_before (written.Entry b) = refl
+none_before Open = refl
+none_before (written.In r a b) = refl
+none_before (written.Tick r) = refl
+none_before (written.Suspect r m) = refl
+
+-- a line of a sheet stands in no audit if it does not where a sheet is current
+not_in_current : (audit : Audit) (ls : List AuditLine) (l : SheetLine) → audit.bad ≡ None → StandsBehind audit ls
+    → (AtHand audit.n audit.rerun audit.accounts.items ls → BeginAnAudit (ls ++ lines.Sheet l ∷ []) → ⊥) → BeginAnAudit (ls ++ lines.Sheet l ∷ []) → ⊥
+not_in_current audit ls l none s refused =
+    go audit.progress s.leads (subst (λ (o : Option BadLog). IsKnown audit.n o audit.progress audit.rerun audit.accounts.items ls) none s.known)
+  where
+    go : (q : Progress) → progress_after Before ls ≡ Some q → Replayed audit.n q audit.rerun audit.accounts.items ls → BeginAnAudit (ls ++ lines.Sheet l ∷ []) → ⊥
+    go Before leads known = not_followed Before ls (lines.Sheet l) leads (none_before l)
+    go Finding leads known = refused known
+    go Running leads known = refused known
+
+pub refused_unreplayed : (audit : Audit) (ls : List AuditLine) (l : SheetLine) → audit.bad ≡ None → StandsBehind audit ls → audit.rerun ≡ None → BeginAnAudit (ls ++ lines.Sheet l ∷ []) → ⊥
+refused_unreplayed audit ls l none s is = not_in_current audit ls l none s (λ h begun. none-some h.rerun (sym is ∙ h.rerun_is))
+
+pub refused_unaccounted : (audit : Audit) (ls : List AuditLine) (l : SheetLine) → audit.bad ≡ None → StandsBehind audit ls → audit.accounts.items ≡ [] → BeginAnAudit (ls ++ lines.Sheet l ∷ []) → ⊥
+refused_unaccounted audit ls l none s is = not_in_current audit ls l none s (λ h begun. no_snoc h.done h.account (sym is ∙ h.accounts_are))
+
+-- a line that cannot follow in the current sheet
+pub refused_misplaced : (audit : Audit) (ls : List AuditLine) (l : SheetLine) (rest : List Account) (popped : Account) (rerun : Rerun) → audit.bad ≡ None → StandsBehind audit ls
+    → audit.accounts.items ≡ rest ++ popped ∷ [] → audit.rerun ≡ Some rerun → WhereSheetStands rerun popped (λ me n first own steps. BeginASheet (own ++ l ∷ []) → ⊥)
+    → BeginAnAudit (ls ++ lines.Sheet l ∷ []) → ⊥
+refused_misplaced audit ls l rest popped rerun none s popped_is rerun_is refused =
+    not_in_current audit ls l none s (λ h.
+    let stands = here audit.n audit.rerun audit.accounts.items rest popped rerun ls l popped_is rerun_is h in
+    no_line (ls ++ lines.Sheet l ∷ []) h.before h.me (h.own ++ l ∷ []) (lines_more ls h.before h.me h.own l h.lines_are)
+    (refused h.me audit.n (length h.before + 2) h.own h.steps stands))
 
 -- the log of the current sheet is bad
 pub takes_bad_log : (old new : Audit) (ls : List AuditLine) (l : SheetLine) (rest : List Account) (popped : Account) (rerun : Rerun) (bad : BadLog) → old.bad ≡ None → new.n ≡ old.n → new.bad ≡ Some bad

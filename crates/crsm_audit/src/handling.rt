@@ -12,7 +12,7 @@ use crate::sheet::advance;
 use crate::state::{Audit, BadLog};
 use crate::text::push_verdict;
 use crate::{Account, judge};
-use crsm_base::{Bytes, never};
+use crsm_base::Bytes;
 use crsm_cmd_replay_node::SheetCause;
 use crsm_law_sheets::agreeing_sheets_are_safe;
 use crsm_port_lines::{Handler, Stop};
@@ -79,17 +79,17 @@ impl Audit {
         Ok(())
     }
 
-    /// Replays a line of the current sheet.
+    /// Replays a line of the current sheet. A line is refused if no sheet has begun, or if it cannot follow in it.
     fn replay(&mut self, line: &SheetLine) -> Result<(), Stop<SheetCause>>
         ensures ok { self.old.bad ≡ None → (ls : List Spelt) → OnOk result (TakesBehind ls self.old (Spelt.Sheet line.now) self.new) }
-        ensures err { IfErr result (λ stop. stop ≡ Stop.NoMemory) }
+        ensures err { self.old.bad ≡ None → (ls : List Spelt) → StandsBehind self.old ls → IfErr result (λ stop. StopsLine ls (Spelt.Sheet line.now) stop) }
         ensures n { self.new.n ≡ self.old.n }
     {
-        let Some(mut account) = pop_account(&mut self.accounts) else {
-            return Err(Stop::from(never()));
-        };
         let Some(rerun) = &mut self.rerun else {
-            return Err(Stop::from(never()));
+            return Err(Stop::Refused(SheetCause::Unreadable));
+        };
+        let Some(mut account) = pop_account(&mut self.accounts) else {
+            return Err(Stop::Refused(SheetCause::Unreadable));
         };
         let advanced = advance(rerun, &mut account, line);
         let Ok(()) = self.accounts.push(account) else {
@@ -101,8 +101,7 @@ impl Audit {
                 self.bad = Some(BadLog { entry, why });
                 Ok(())
             }
-            // The line may follow those before it.
-            Err(RerunError::Misplaced) => Err(Stop::from(never())),
+            Err(RerunError::Misplaced) => Err(Stop::Refused(SheetCause::Unreadable)),
             Err(RerunError::NoMemory) => Err(Stop::NoMemory),
         }
     }
@@ -111,7 +110,7 @@ impl Audit {
     fn add(&mut self, at: u64, line: &AuditLine) -> Result<(), Stop<SheetCause>>
         requires { FitsLine line.now }
         ensures ok { (ls : List Spelt) → at ≡ length ls + 1 → OnOk result (TakesBehind ls self.old line.now self.new) }
-        ensures err { IfErr result (λ stop. stop ≡ Stop.NoMemory) }
+        ensures err { (ls : List Spelt) → StandsBehind self.old ls → IfErr result (λ stop. StopsLine ls line.now stop) }
         ensures n { self.new.n ≡ self.old.n }
     {
         let None = self.bad else {

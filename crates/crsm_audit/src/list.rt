@@ -9,7 +9,7 @@ ghost use Rattle.crsm_audit.specs.Lists.{Differs, IsWithin};
 ghost use Rattle.crsm_audit.specs.Lists as on_paper;
 
 use crate::place::ExecutedEntry;
-use crsm_base::{Bodies, Entry, NoMemory, never};
+use crsm_base::{Bodies, Entry, NoMemory};
 use crsm_codec::read_entry;
 use std::alloc::Global;
 
@@ -81,19 +81,19 @@ fn name_of(entry: &Entry) -> ExecutedEntry
 /// Drops a value in its own function, which keeps its cases out of its caller's proof.
 fn discard<T: Drop>(_value: T) {}
 
-/// Returns the identity of an encoded entry.
-fn place_of(alloc: Global, bytes: &[u8]) -> Result<ExecutedEntry, NoMemory>
-    ensures { (e : Entry) → FitsEntry e → bytes.now ≡ entry_bytes e → IfOk result (λ place. place ≡ on_paper.place_of e) }
+/// Returns the identity of an encoded entry, or `None` if the bytes are not one. `NoMemory` if memory runs out.
+fn place_of(alloc: Global, bytes: &[u8]) -> Result<Option<ExecutedEntry>, NoMemory>
+    ensures { (e : Entry) → FitsEntry e → bytes.now ≡ entry_bytes e → IfOk result (λ place. place ≡ Some (on_paper.place_of e)) }
 {
     let Some((entry, _)) = read_entry(alloc, bytes)? else {
-        return Err(never());
+        return Ok(None);
     };
     let place = name_of(&entry);
     discard(entry);
-    Ok(place)
+    Ok(Some(place))
 }
 
-/// Returns the identities of a list's entries. `NoMemory` if memory runs out.
+/// Returns the identities of the entries that a list encodes. `NoMemory` if memory runs out.
 pub(crate) fn places_of(alloc: Global, list: &Bodies) -> Result<Vec<ExecutedEntry>, NoMemory>
     ensures { (es : List Entry) → AllByRecursion FitsEntry es → list.now ≡ spelt es → IfOk result (λ places. places.items ≡ on_paper.places_of es) }
 {
@@ -102,7 +102,9 @@ pub(crate) fn places_of(alloc: Global, list: &Bodies) -> Result<Vec<ExecutedEntr
         let Some(bytes) = list.get(at) else {
             unreachable!();
         };
-        places.push(place_of(alloc, bytes)?)?;
+        if let Some(place) = place_of(alloc, bytes)? {
+            places.push(place)?;
+        }
     }
     Ok(places)
 }
