@@ -8,7 +8,7 @@ ghost use Rattle.crsm_spec.specs.Log.{executed};
 ghost use Rattle.crsm_cmd_dump.specs.Catalogs as spec;
 ghost use Rattle.crsm_cmd_dump.specs.Catalogs.{Lists, changed, client_of, clients_of, is_done, is_executed};
 
-use crsm_base::{Answer, Command, Key, MAX_CLIENTS, NoMemory, Op, Val, never};
+use crsm_base::{Answer, Command, Key, MAX_CLIENTS, NoMemory, Op, Val};
 use crsm_kv::Store;
 use crsm_ledger::Ledger;
 use indexmap::IndexMap;
@@ -57,9 +57,7 @@ impl Catalog {
     {
         let mut catalog = Catalog::new(alloc)?;
         for place in 0..ledger.executed_len() {
-            let Some(entry) = ledger.executed(place)? else {
-                return Err(never());
-            };
+            let entry = ledger.executed_at(place)?;
             catalog.take(&entry.command)?;
         }
         Ok(catalog)

@@ -1,4 +1,4 @@
-use Rattle.std.proofs.Common.{Some, ◌≡◌, ◌∙◌, sym}
+use Rattle.std.proofs.Common.{Some, ◌≡◌}
 use Rattle.std.specs.Prelude.{slice_get}
 use Rattle.crsm_base.specs.Store.{after}
 use Rattle.crsm_spec.specs.Log.{executed}
@@ -11,5 +11,5 @@ loop-place-init c = λ me n log stands. c.in_ok-catalog.ensures
 
 pub loop-place-preserved : goal.loop-place-preserved
 loop-place-preserved c = λ me n log stands.
-    let there : slice_get (executed log) c.loop-place.place ≡ Some c.in-Some.entry = sym (c.in_ok-entry.ensures me n log stands) ∙ c.in-Some.is in
-    listed_more _ (executed log) c.loop-place.place c.in-Some.entry there (c.in_ok-take.ensures _ (c.loop-place.invariant me n log stands))
+    let there : slice_get (executed log) c.loop-place.place ≡ Some c.in_ok-entry.entry = c.in_ok-entry.ensures me n log stands in
+    listed_more _ (executed log) c.loop-place.place c.in_ok-entry.entry there (c.in_ok-take.ensures _ (c.loop-place.invariant me n log stands))
