@@ -10,7 +10,8 @@ use Rattle.crsm_schedule.specs.Grammar.{IsSize, first_text}
 use Rattle.crsm_text.proofs.TextLaws.{decimal_split}
 use Rattle.crsm_delay.specs.Grammar.{FitsLine, line_text}
 use Rattle.crsm_delay.specs.Drafts.{empty, with_line}
-use Rattle.crsm_delay.specs.Reading.{Advanced, RefusedAfter, Reads, IsUnfinished, plans_of}
+use Rattle.crsm_delay.specs.Advancing.{Advanced, RefusedAfter, Reads}
+use Rattle.crsm_delay.specs.Reading.{IsUnfinished, plans_of}
 use Rattle.crsm_delay.specs.declared.line.PlanLine.{PlanLine}
 use Rattle.crsm_delay.specs.declared.line.PlanLine.TheVariants.{Offset, Delay, Command}
 use Rattle.crsm_delay.specs.declared.draft.Draft.{Draft}

@@ -2,7 +2,9 @@
 use Rattle.std.proofs.Common.{◌≡◌, ℕ, ◌+◌, ◌<◌, ◌≤◌, List, [], ◌∷◌, refl, sym, ◌∙◌, ap, subst, inl, inr, Bool, true, false, cond, arith}
 use Rattle.std.specs.Prelude.{Option, Some, None, Result, Ok, Err, IfOk, IfErr, OnOk, find, nat_le, nat_lt, not, ◌==◌, ◌&&◌, ◌||◌, ◌⊎◌}
 use Rattle.std.specs.Option.{option_map_or}
-use Rattle.std.specs.List.{AllByRecursion, list_all}
+use Rattle.std.specs.List.{AllByRecursion}
+use Rattle.std.proofs.Math.Logic.{∥∥₁_elim, ∥∥₁_map}
+use Rattle.std.proofs.Props.{props}
 use Rattle.std.proofs.lemmas.Bool.{false≢true, and_parts, or_cases}
 use Rattle.std.proofs.lemmas.Bool.Decides.{nat_tests}
 use Rattle.std.proofs.lemmas.List.{append-nil}
@@ -19,12 +21,13 @@ use Rattle.crsm_spec_plan.specs.Plans.{FitsPlan, most_delay, most_moment, offset
 use Rattle.crsm_delay.specs.Exactly.{EndsExactly}
 use Rattle.crsm_delay.specs.Grammar.{FitsLine, line_text}
 use Rattle.crsm_delay.specs.Drafts.{can_follow, empty, with_line}
-use Rattle.crsm_delay.specs.Reading.{AddsWritten, Advanced, Advances, HasRead, IsWritten, RefusedAfter, StopsUnread, Reads, ReadsSo, plans_of}
+use Rattle.crsm_delay.specs.Advancing.{Advanced, Advances, IsRead, Reads, RefusedAfter}
+use Rattle.crsm_delay.specs.Reading.{AddsWritten, HasRead, IsWritten, StopsUnread, ReadsSo, plans_of}
 use Rattle.crsm_delay.specs.declared.line.PlanLine.{PlanLine}
 use Rattle.crsm_delay.specs.declared.line.PlanLine.TheVariants.{Offset, Delay, Command}
 use Rattle.crsm_delay.specs.declared.draft.Draft.{Draft}
 use Rattle.crsm_delay.specs.declared.handling.PlanCause.{PlanCause}
-use Rattle.crsm_delay.specs.declared.handling.PlanReader.{PlanReader}
+use Rattle.crsm_delay.specs.declared.reader.PlanReader.{PlanReader}
 use Rattle.crsm_delay.specs.declared.handling.Wanted.{Wanted}
 
 -- ---- one line
@@ -54,6 +57,21 @@ no_memory old text = tt
 pub no_first : (old : Option Draft) (text : Text) → old ≡ None → RefusedAfter None text → StopsUnread (Stop.Refused PlanCause.Unreadable) old text
 unfolding StopsUnread
 no_first old text e r = (refl, subst (λ o. RefusedAfter o text) (sym e) r)
+
+-- ---- what was read
+
+-- a line that was not added changes nothing
+pub still_read : {D E : Type 0} (result : Result D E) (old new : Draft) (text : Text) → ∥ IsRead (Some old) ∥₁ → IfOk result (λ d. Advances (Some old) text (Some new)) → IfErr result (λ e. new ≡ old) → ∥ IsRead (Some new) ∥₁
+unfolding Advances
+still_read (Ok d) old new text read a kept = ∥∥₁_map read (λ r. record { texts = r.texts ++ text ∷ []; reads = Reads.more text r.reads a })
+still_read (Err e) old new text read a kept = subst (λ (d : Draft). ∥ IsRead (Some d) ∥₁) (sym kept) read
+
+pub first_read : (draft : Draft) (text : Text) → Advances None text (Some draft) → ∥ IsRead (Some draft) ∥₁
+unfolding Advances
+first_read draft text a = ∣ record { texts = [] ++ text ∷ []; reads = Reads.more text Reads.nothing a } ∣₁
+
+pub none_read : ∥ IsRead None ∥₁
+none_read = ∣ record { texts = []; reads = Reads.nothing } ∣₁
 
 -- ---- the handler
 
@@ -120,24 +138,6 @@ delays_small plan a b h = go (a == b) (found_small (λ d. d.from == a && d.to ==
     go true h = omega arith
     go false h = h
 
-all_small : {A : Type 0} (v : A → ℕ) (m : ℕ) (xs : List A) → list_all (λ x. nat_le (v x) m) xs ≡ true → AllByRecursion (λ x. v x ≤ m) xs
-all_small v m [] h = tt
-all_small v m (x ∷ xs) h = let p = and_parts (nat_le (v x) m) (list_all (λ y. nat_le (v y) m) xs) h in (le_of (v x) m p.0, all_small v m xs p.1)
-
--- a plan whose numbers are tested
-pub within : (plan : Plan) (ahead : ℕ) → 1 ≤ plan.n → plan.n ≤ 15 → plan.origin < plan.n → plan.at ≤ most_moment → ahead ≡ offset_of plan plan.origin → 1 ≤ plan.at + ahead →
-    list_all (λ (o : Ahead). nat_le o.by most_moment) plan.offsets ≡ true → list_all (λ (x : Takes). nat_le x.by most_delay) plan.delays ≡ true → FitsPlan plan
-unfolding stamped reading
-within plan ahead some most origin at is reads offsets delays = record {
-  some = some;
-  most = most;
-  origin = origin;
-  at = at;
-  offsets = λ k. offsets_small plan k (all_small (λ (o : Ahead). o.by) most_moment plan.offsets offsets);
-  delays = λ a b. delays_small plan a b (all_small (λ (x : Takes). x.by) most_delay plan.delays delays);
-  reads = omega (arith, is, reads);
-}
-
 good_command : (d : Draft) (r at : ℕ) → IsGood d → (nat_lt r d.plan.n && nat_le at most_moment) ≡ true → (nat_lt 0 at || nat_lt 0 (offset_of d.plan r)) ≡ true → IsGood (with_line d (Command r at))
 unfolding stamped reading offset_of
 good_command d r at g fit some =
@@ -187,12 +187,18 @@ fits_plan texts d r w =
     let o = g.origin w in
     record { some = g.some; most = g.most; origin = o.0; at = o.1; offsets = λ k. offsets_small d.plan k g.offsets; delays = λ a b. delays_small d.plan a b g.delays; reads = o.2 }
 
+fits_prop : (plan : Plan) → IsProp (FitsPlan plan)
+fits_prop plan = hlevel props
+
+-- a whole plan that was read is within its bounds
+pub whole_fits : (draft : Option Draft) (d : Draft) → ∥ IsRead draft ∥₁ → draft ≡ Some d → d.is_whole ≡ true → FitsPlan d.plan
+whole_fits draft d read is whole = ∥∥₁_elim read (fits_prop d.plan) (λ r. fits_plan r.texts d (subst (λ o. Reads r.texts o) is r.reads) whole)
+
 pub ends_well : (wanted : Wanted) (r : PlanReader) (d : Draft) (lines : List Text) (shown before after : Text) → r.draft ≡ Some d → d.is_whole ≡ true →
-    (FitsPlan d.plan → AddsWritten r.wanted d.plan before after) → HasRead wanted r lines shown → EndsWell (plans_of wanted) lines shown before after
-ends_well wanted r d lines shown before after is whole made has =
+    AddsWritten r.wanted d.plan before after → HasRead wanted r lines shown → EndsWell (plans_of wanted) lines shown before after
+ends_well wanted r d lines shown before after is whole adds has =
     let reads = subst (λ o. Reads lines o) is has.so.reads in
     let fits = fits_plan lines d reads whole in
-    let adds = made fits in
     record {
       last = adds.more;
       added = adds.added;

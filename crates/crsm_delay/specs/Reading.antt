@@ -1,35 +1,16 @@
 -- The effect of a reader on the lines of an input.
-use Rattle.std.specs.Prelude.{◌≡◌, ◌≢◌, ℕ, true, false, List, [], ◌∷◌, ◌++◌, Option, Some, None}
+use Rattle.std.specs.Prelude.{◌≡◌, true, false, List, [], ◌++◌, Option, Some, None}
 use Rattle.crsm_port_lines.specs.Handling.{Handling, Text}
 use Rattle.crsm_port_lines.specs.declared.Stop.{Stop}
-use Rattle.crsm_schedule.specs.Grammar.{IsSize, first_text}
 use Rattle.crsm_spec_plan.specs.declared.Plan.{Plan}
 use Rattle.crsm_spec_plan.specs.Plans.{FitsPlan}
-use Rattle.crsm_delay.specs.Grammar.{FitsLine, line_text}
-use Rattle.crsm_delay.specs.Drafts.{can_follow, empty, with_line}
+use Rattle.crsm_delay.specs.Advancing.{Reads, RefusedAfter}
 use Rattle.crsm_delay.specs.Following.{WritesTimeline}
 use Rattle.crsm_delay.specs.Times.{times_text}
-use Rattle.crsm_delay.specs.declared.line.PlanLine.{PlanLine}
 use Rattle.crsm_delay.specs.declared.draft.Draft.{Draft}
 use Rattle.crsm_delay.specs.declared.handling.PlanCause.{PlanCause}
-use Rattle.crsm_delay.specs.declared.handling.PlanReader.{PlanReader}
+use Rattle.crsm_delay.specs.declared.reader.PlanReader.{PlanReader}
 use Rattle.crsm_delay.specs.declared.handling.Wanted.{Wanted}
-
--- ---- one line
-
--- the text is that of a line that can stand there, and this is what has been read with it
-pub data Advanced : Option Draft → Text → Option Draft → Type 0 where
-  IsFirst : (n : ℕ) → IsSize n → Advanced None (first_text n) (Some (empty n))
-  IsNext : (d : Draft) (line : PlanLine) → FitsLine line → can_follow d line ≡ true → Advanced (Some d) (line_text line) (Some (with_line d line))
-
--- the same, shut: a proof opens it where it needs what is in it
-unfoldable pub Advances : Option Draft → Text → Option Draft → Type 0
-Advances old text new = Advanced old text new
-
--- the text is not that of a line that can follow
-abbrev pub RefusedAfter : Option Draft → Text → Type 0
-RefusedAfter None text = (n : ℕ) → IsSize n → text ≢ first_text n
-RefusedAfter (Some d) text = (line : PlanLine) → FitsLine line → can_follow d line ≡ true → text ≢ line_text line
 
 -- a line is not added: it is refused, or memory ran out
 unfoldable pub StopsUnread : Stop PlanCause → Option Draft → Text → Type 0
@@ -37,11 +18,6 @@ StopsUnread (Stop.Refused cause) old text = (cause ≡ PlanCause.Unreadable) × 
 StopsUnread Stop.NoMemory old text = Unit {0}
 
 -- ---- the lines of an input
-
--- the lines of a plan that were read
-pub data Reads : List Text → Option Draft → Type 0 where
-  nothing : Reads [] None
-  more : {texts : List Text} {old new : Option Draft} (text : Text) → Reads texts old → Advanced old text new → Reads (texts ++ text ∷ []) new
 
 -- the line of the command is still to come
 abbrev pub IsUnfinished : Option Draft → Type 0

@@ -9,7 +9,8 @@ ghost use Rattle.crsm_delay.specs.declared.handling.Wanted.{Wanted as Asked};
 ghost use Rattle.crsm_delay.specs.Reading.{plans_of, schedule_of, times_of};
 ghost use Rattle.crsm_law_timing.specs.Commits.{CommandsCommitInTime, TimelinesArePossible};
 
-use crate::handling::{PlanCause, PlanReader, Wanted};
+use crate::handling::{PlanCause, Wanted};
+use crate::reader::PlanReader;
 use crsm_io::{Sink, Source};
 use crsm_law_timing::{commands_commit_in_time, timelines_are_possible};
 use crsm_port_lines::{InputEnd, MAX_INPUT_BYTES, run_lines};

@@ -1,8 +1,6 @@
 //! A plan that is read line by line.
 
-ghost use Rattle.std.specs.Prelude.{◌≡◌, OnOk, nat_le, true};
-ghost use Rattle.std.specs.List.{list_all};
-ghost use Rattle.crsm_spec_plan.specs.Plans.{FitsPlan, most_delay, most_moment};
+ghost use Rattle.std.specs.Prelude.{◌≡◌, OnErr, OnOk};
 ghost use Rattle.crsm_delay.specs.Drafts.{can_follow, empty, has_delay, has_offset, with_line};
 
 use crate::line::PlanLine;
@@ -41,46 +39,6 @@ fn has_delay_of(plan: &Plan, from: u64, to: u64) -> bool
         .as_slice()
         .iter()
         .any(|d| d.from == from && d.to == to)
-}
-
-/// Returns whether each offset is within its bound.
-fn are_offsets_within(plan: &Plan) -> bool
-    ensures { result ≡ list_all (λ o. nat_le o.by most_moment) plan.now.offsets }
-{
-    plan.offsets.as_slice().iter().all(|o| o.by <= MOST_MOMENT)
-}
-
-/// Returns whether each delay is within its bound.
-fn are_delays_within(plan: &Plan) -> bool
-    ensures { result ≡ list_all (λ d. nat_le d.by most_delay) plan.now.delays }
-{
-    plan.delays.as_slice().iter().all(|d| d.by <= MOST_DELAY)
-}
-
-/// Returns whether the numbers of a plan are within their bounds.
-pub(crate) fn is_within(plan: &Plan) -> bool
-    ensures { result ≡ true → FitsPlan plan.now }
-{
-    if plan.n == 0 {
-        return false;
-    }
-    if plan.n > 15 {
-        return false;
-    }
-    if plan.origin >= plan.n {
-        return false;
-    }
-    if plan.at > MOST_MOMENT {
-        return false;
-    }
-    let ahead = offset_of(plan, plan.origin);
-    if plan.at.saturating_add(ahead) == 0 {
-        return false;
-    }
-    if !are_offsets_within(plan) {
-        return false;
-    }
-    are_delays_within(plan)
 }
 
 impl Draft {
@@ -128,9 +86,10 @@ impl Draft {
         }
     }
 
-    /// Adds a line. `NoMemory` if memory runs out.
+    /// Adds a line. `NoMemory` if memory runs out; nothing is added then.
     pub(crate) fn add(&mut self, line: PlanLine) -> Result<(), NoMemory>
-        ensures { OnOk result (self.new ≡ with_line self.old line) }
+        ensures ok { OnOk result (self.new ≡ with_line self.old line) }
+        ensures err { OnErr result (self.new ≡ self.old) }
     {
         match line {
             PlanLine::Offset { replica, by } => {

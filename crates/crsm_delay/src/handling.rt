@@ -1,15 +1,16 @@
 //! The lines of a plan: each is added to those read before.
 
 ghost use Rattle.std.specs.Prelude.{◌≡◌, None, Some, IfErr, IfOk, IfSome, OnOk};
-ghost use Rattle.crsm_delay.specs.Following.{AddsTimeline};
-ghost use Rattle.crsm_delay.specs.Reading.{AddsWritten, Advances, RefusedAfter, StopsUnread};
+ghost use Rattle.crsm_delay.specs.Advancing.{Advances, RefusedAfter};
+ghost use Rattle.crsm_delay.specs.Reading.{AddsWritten, StopsUnread};
 ghost use Rattle.crsm_spec_plan.specs.Plans.{FitsPlan};
 
-use crate::draft::{Draft, is_within};
+use crate::draft::Draft;
 use crate::line::read_line;
 use crate::moments::push_times;
+use crate::reader::PlanReader;
 use crate::timeline::push_timeline;
-use crsm_base::{Bytes, NoMemory, never};
+use crsm_base::{Bytes, NoMemory};
 use crsm_port_lines::{Handler, Stop};
 use crsm_schedule::read_first;
 use crsm_spec_plan::Plan;
@@ -35,6 +36,7 @@ pub enum PlanCause {
 fn add_line(draft: &mut Draft, text: &[u8]) -> Result<(), Stop<PlanCause>>
     ensures ok { IfOk result (λ done. Advances (Some draft.old) text.now (Some draft.new)) }
     ensures err { IfErr result (λ stop. StopsUnread stop (Some draft.old) text.now) }
+    ensures kept { IfErr result (λ stop. draft.new ≡ draft.old) }
 {
     let Some(line) = read_line(text) else {
         return Err(Stop::Refused(PlanCause::Unreadable));
@@ -55,25 +57,6 @@ fn first_line(alloc: Global, text: &[u8]) -> Option<Draft>
 {
     let n = read_first(text)?;
     Some(Draft::new(alloc, u64::from(n)))
-}
-
-/// Appends the schedule of a plan's timeline.
-fn push_schedule(alloc: Global, text: &mut Bytes, plan: &Plan) -> Result<(), NoMemory>
-    ensures { OnOk result (AddsTimeline plan.now text.old text.new) }
-{
-    if !is_within(plan) {
-        // Each plan that was read to its end is within the bounds.
-        return Err(never());
-    }
-    push_timeline(alloc, text, plan)
-}
-
-/// The reading of a plan, and the text that is wanted of it.
-#[derive(Drop)]
-pub(crate) struct PlanReader {
-    alloc: Global,
-    wanted: Wanted,
-    draft: Option<Draft>,
 }
 
 impl PlanReader {
@@ -108,11 +91,12 @@ impl PlanReader {
 
     /// Appends the wanted text of a plan.
     fn push_wanted(&self, text: &mut Bytes, plan: &Plan) -> Result<(), NoMemory>
-        ensures { OnOk result (FitsPlan plan.now → AddsWritten self.now.wanted plan.now text.old text.new) }
+        requires { FitsPlan plan.now }
+        ensures { OnOk result (AddsWritten self.now.wanted plan.now text.old text.new) }
     {
         match self.wanted {
             Wanted::Times => push_times(text, plan),
-            Wanted::Schedule => push_schedule(self.alloc, text, plan),
+            Wanted::Schedule => push_timeline(self.alloc, text, plan),
         }
     }
 }

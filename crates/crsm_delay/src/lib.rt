@@ -8,6 +8,7 @@ mod draft;
 mod handling;
 mod line;
 mod moments;
+mod reader;
 mod timeline;
 mod upcoming;
 
