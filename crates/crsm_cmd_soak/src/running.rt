@@ -73,7 +73,8 @@ impl SoakRun {
     }
 }
 
-/// Runs up to `steps` generated events: it ends early if the world is full. `NoMemory` if memory runs out.
+/// Runs up to `steps` generated events: it ends early if the world is full. `NoMemory` if memory runs out, or a count
+/// would exceed 64 bits.
 pub(crate) fn run_all(alloc: Global, number: u64, n: u32, steps: u64) -> Result<SoakRun, NoMemory>
     requires some { 1 ≤ n }
     requires most { n ≤ 15 }

@@ -7,7 +7,7 @@ ghost use Rattle.crsm_cmd_soak.specs.Soak.{more, nothing};
 use crate::counting::{
     answers, drops, greatest_executed, greatest_known, refusals, sends, submissions,
 };
-use crsm_base::{Line, NoMemory, never};
+use crsm_base::{Line, NoMemory};
 
 /// The summary of a run: counts over all its events. A replica that is down counts with its last executed length and
 /// epoch.
@@ -29,11 +29,11 @@ pub(crate) struct Summary {
     pub datagrams: u64,
 }
 
-/// Returns the sum of two counts. All that was counted was in memory, so that the sum does not overflow.
+/// Returns the sum of two counts, or `NoMemory` if it does not fit 64 bits.
 fn sum(before: u64, more: u64) -> Result<u64, NoMemory>
     ensures { IfOk result (λ sum. sum ≡ before + more) }
 {
-    before.checked_add(more).ok_or(never())
+    before.checked_add(more).ok_or(NoMemory)
 }
 
 impl Summary {
@@ -54,7 +54,7 @@ impl Summary {
         }
     }
 
-    /// Adds `steps` events, which led to these lines. `NoMemory` if memory runs out.
+    /// Adds `steps` events, which led to these lines. `NoMemory` if a count would exceed 64 bits.
     #[tactic(auto, unfolding(crate::specs::Soak::more))]
     pub fn add(&mut self, steps: u64, lines: &[Line]) -> Result<(), NoMemory>
         ensures { OnOk result (self.new ≡ more self.old steps lines.now) }
