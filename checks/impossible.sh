@@ -35,10 +35,6 @@ done < <(count)
 [ "$fail" = 0 ] && echo "impossible: ok"
 exit "$fail"
 # list
-# crsm_audit 5
-# crsm_cmd_dump 1
-# crsm_cmd_soak 1
-# crsm_delay 1
 # crsm_mpledger 2
 # crsm_mpreplica 1
 # crsm_mpworld 9
