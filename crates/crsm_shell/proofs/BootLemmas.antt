@@ -72,10 +72,7 @@ no_bad_log errors.PortFault entry kind is = cc
 no_bad_log errors.Failed entry kind is = cc
 no_bad_log errors.NoMemory entry kind is = cc
 
--- a put that fails is of no bad log, and its fault is met in four calls
-pub failed_not_bad : (gate : ℕ) (body : List ℕ) (old new : Meaning) (why : BootError) → FailsToKeep gate body old new why → (entry kind : ℕ) → why ≡ boots.BadLog entry kind → ⊥
-failed_not_bad gate body old new why f entry kind is = no_bad_log f.turn entry kind (sym f.is ∙ is)
-
+-- the fault of a put is met in four calls
 pub failed_meets : (gate : ℕ) (body : List ℕ) (old new : Meaning) (why : BootError) → FailsToKeep gate body old new why → IsTrue old.honest → why ≡ boots.DiskFault → MeetsIn 4 old.plan
 failed_meets gate body old new why f honest is p told =
     let stops = f.not_kept.stops (disk_fault f.turn (sym f.is ∙ is)) in

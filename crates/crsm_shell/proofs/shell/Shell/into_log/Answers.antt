@@ -14,7 +14,7 @@ returns-clause-stands g c kept r steps s none =
     let m = g.D.Disk.meaning (disk_of old) in
     let core = subst (λ (core : Core). CoreStands core r) (sym c.into_inner.ensures) (inside old m kept r steps s).core in
     record {
-      ledger = core_ledger c.into_inner.result r c.into_ledger.result core (c.into_ledger.ensures r core);
+      ledger = core_ledger c.into_inner.result r c.into_ledger-ledger.result core (c.into_ledger-ledger.ensures r core);
       file = λ honest. subst (HasLog r.me r.n m.seen) (sym (all_kept old m kept r steps s none)) ((inside old m kept r steps s).file honest);
     }
 
@@ -23,4 +23,4 @@ invariant_of-result-clause-stands g c =
     ∥∥₁_map (c.args.self.stands c.requires) (λ one.
     let r = one.replica in
     let core = subst (λ (core : Core). CoreStands core r) (sym c.into_inner.ensures) one.stands in
-    record { me = r.me; n = r.n; log = r.log; is = core_ledger c.into_inner.result r c.into_ledger.result core (c.into_ledger.ensures r core) })
+    record { me = r.me; n = r.n; log = r.log; is = core_ledger c.into_inner.result r c.into_ledger-ledger.result core (c.into_ledger-ledger.ensures r core) })
