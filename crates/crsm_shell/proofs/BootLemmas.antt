@@ -214,8 +214,8 @@ module _ (one : (a b : List Rec) (s : List ℕ) → SpeltBody a s → SpeltBody 
         let same = one_log other (subst (λ (bs : List (List ℕ)). AreKept me n [] bs other) booted.found kept) in (
           subst (λ (l : Log). IsFull old.seen (boot_body me n l) → ⊥) same (room honest well.fits),
           adds_some begun.body mid.seen new.seen body_some (well.added (honest_mid honest))
-          ∙ ap (λ (bs : List (List ℕ)). found (bs ++ begun.body ∷ [])) (same_bodies honest ∙ found_bodies honest ∙ sym booted.found)
-          ∙ ap (λ (body : List ℕ). found (b.bodies ++ body ∷ [])) (begins.body ∙ ap (boot_body me n) same),
+              ∙ ap (λ (bs : List (List ℕ)). found (bs ++ begun.body ∷ [])) (same_bodies honest ∙ found_bodies honest ∙ sym booted.found)
+              ∙ ap (λ (body : List ℕ). found (b.bodies ++ body ∷ [])) (begins.body ∙ ap (boot_body me n) same),
         )
 
   -- ---- a crash at any moment
