@@ -123,10 +123,6 @@ waits_in from number d e g same waits = subst (λ (x : Early). WaitsAs from numb
 pub early_still : (from : ℕ) (bytes : List ℕ) (old : List (Option Frame)) (v w : Vec (Option Frame) Global) → w ≡ v → KeepsOnly from bytes (early_in old) (early_in v.items) → KeepsOnly from bytes (early_in old) (early_in w.items)
 early_still from bytes old v w same keeps = subst (λ (x : Vec (Option Frame) Global). KeepsOnly from bytes (early_in old) (early_in x.items)) (sym same) keeps
 
-pub on_ok : (r : Result (Unit {0}) NoMemory) (P : Type 0) → P → OnOk r P
-on_ok (Ok u) P p = p
-on_ok (Err e) P p = tt
-
 pub ok_map : (r : Result (Unit {0}) NoMemory) (P Q : Type 0) → (P → Q) → OnOk r P → OnOk r Q
 ok_map (Ok u) P Q f p = f p
 ok_map (Err e) P Q f p = tt

@@ -117,8 +117,8 @@ impl Early {
         }
     }
 
-    /// Keeps a frame that waits. `NoMemory` if another is kept in its place.
-    pub(crate) fn keep(&mut self, frame: Head, datagram: Datagram) -> Result<(), NoMemory>
+    /// Keeps a frame that waits, or returns its datagram if another is kept in its place.
+    pub(crate) fn keep(&mut self, frame: Head, datagram: Datagram) -> Result<(), Datagram>
         ensures waits { OnOk result (WaitsAs frame.from frame.number datagram self.new.frames.items) }
         ensures stay { StayKept self.old.frames.items self.new.frames.items }
         ensures only { OneMoreWaits datagram self.old.frames.items self.new.frames.items }
@@ -132,7 +132,7 @@ impl Early {
                 });
                 Ok(())
             }
-            _ => Err(NoMemory),
+            _ => Err(datagram),
         }
     }
 

@@ -1,6 +1,7 @@
 //! The datagrams that came from peers and are not handed up yet, each in its order.
 
-ghost use Rattle.std.specs.Prelude.{◌≡◌, ◌⊎◌, [], length, IfOk, IfSome, OnOk, None};
+ghost use Rattle.std.specs.Prelude.{◌≡◌, ◌↔◌, ◌<◌, IsTrue, ◌⊎◌, [], length, IfOk, IfSome, OnOk, None};
+ghost use Rattle.std.specs.VecDeque.{deque_capacity, deque_len};
 ghost use Rattle.crsm_port.specs.Passing.{NoMore};
 ghost use Rattle.crsm_port_flow.specs.Early.{WaitsAs};
 ghost use Rattle.crsm_port_flow.specs.Heads.{HasHead};
@@ -73,7 +74,10 @@ impl FromPeers {
         ensures only { KeepsOnly from bytes.now (of_peers self.old) (of_peers self.new) }
     {
         let datagram = self.room.put(from, bytes)?;
-        self.ready.push_back(datagram)?;
+        if let Err(failed) = self.ready.push_back(datagram) {
+            self.room.take_back(failed.value);
+            return Err(NoMemory);
+        }
         Ok(())
     }
 
@@ -99,7 +103,8 @@ impl FromPeers {
     {
         self.make_ready(from, bytes)?;
         self.early.note_handed_up(frame);
-        self.follow(frame.from)
+        self.follow(frame.from);
+        Ok(())
     }
 
     /// Keeps a frame until the one before it has come, and makes it ready as well if none of its link was for a while.
@@ -109,25 +114,31 @@ impl FromPeers {
         ensures only { KeepsOnly from bytes.now (of_peers self.old) (of_peers self.new) }
     {
         let datagram = self.room.put(from, bytes)?;
-        self.early.keep(frame, datagram)?;
+        if let Err(datagram) = self.early.keep(frame, datagram) {
+            self.room.take_back(datagram);
+            return Err(NoMemory);
+        }
         if self.early.tells(frame.from, now) {
-            return self.make_ready(from, bytes);
+            // It waits, whether or not there is room for this.
+            let _ = self.make_ready(from, bytes);
         }
         Ok(())
     }
 
-    /// Makes the frames ready that have waited for those before them.
-    fn follow(&mut self, sender: u8) -> Result<(), NoMemory>
+    /// Makes the frames ready that have waited for those before them, as far as there is room.
+    fn follow(&mut self, sender: u8)
         ensures stays { StaysReady self.old.ready.items self.new.ready.items }
         ensures only { NoMore (of_peers self.old) (of_peers self.new) }
     {
         for _ in 0..MOST_FOLLOWING {
+            if !has_place(&self.ready) {
+                return;
+            }
             let Some(datagram) = self.early.take_next(sender) else {
-                return Ok(());
+                return;
             };
-            self.ready.push_back(datagram)?;
+            self.ready.push_back_reserved(datagram);
         }
-        Ok(())
     }
 
     /// Hands up the first datagram that is ready, cut to the buffer, or returns `None`.
@@ -154,6 +165,13 @@ impl FromPeers {
             ..
         } = expected;
         self.early.note_expected(of, epoch, number, &mut self.room);
-        let _ = self.follow(of);
+        self.follow(of);
     }
+}
+
+/// Returns whether one more datagram can be ready without more memory.
+fn has_place(ready: &VecDeque<Datagram>) -> bool
+    ensures { IsTrue result ↔ (deque_len ready.now < deque_capacity ready.now) }
+{
+    ready.len() < ready.capacity()
 }

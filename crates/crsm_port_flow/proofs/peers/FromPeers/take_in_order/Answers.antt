@@ -1,13 +1,11 @@
-use Rattle.crsm_port_flow.proofs.Earlies.{frames_same, made_more, on_ok, peers_rest}
+use Rattle.crsm_port_flow.proofs.Earlies.{frames_same, made_more, peers_rest}
 use Rattle.crsm_port_flow.proofs.Keepings.{keeps_then}
 use Rattle.crsm_port_flow.specs.Kept.{of_peers}
 use Rattle.crsm_port_flow.specs.declared.peers.FromPeers.{FromPeers}
 use Rattle.crsm_port_flow.proofs.peers.FromPeers.take_in_order.Goals as goal
 
 pub returns-clause-ready : goal.returns-clause-ready
-returns-clause-ready c =
-    on_ok c.follow.result _
-    (made_more c.args.from c.args.bytes.now c.args.self.now.ready.items c.make_ready.new.self.ready.items c.follow.new.self.ready.items c.in_ok-make_ready.ensures.ready c.follow.ensures.stays)
+returns-clause-ready c = made_more c.args.from c.args.bytes.now c.args.self.now.ready.items c.make_ready.new.self.ready.items c.follow.new.self.ready.items c.in_ok-make_ready.ensures.ready c.follow.ensures.stays
 
 pub returns-clause-only : goal.returns-clause-only
 returns-clause-only c =
