@@ -1,4 +1,4 @@
-use Rattle.std.proofs.Common.{◌≡◌, [], ◌∷◌, List, None, length, refl, subst, sym, ◌∙◌}
+use Rattle.std.proofs.Common.{◌≡◌, [], None, arith, length, refl, subst, sym}
 use Rattle.std.proofs.Math.Logic.{∥∥₁_elim}
 use Rattle.std.proofs.Props.{props}
 use Rattle.crsm_disk.specs.Memory.{good_left}
@@ -41,7 +41,9 @@ returns-clause-stands c me n r up =
 pub returns-clause-some : goal.returns-clause-some
 returns-clause-some c me n h =
     let r = h.replica in
-    let none = hole in
+    let few = c.if-pending-gt0.false in
+    let counted = c.pending.ensures.steps h.kept r h.steps h.is.stands in
+    let none : length h.steps ≡ 0 = omega (arith, few, counted) in
     record {
       log = r.log;
       has = renamed_left (left.Log _) r.log r.me me r.n n h.is.is_me h.is.began (record {
