@@ -1,4 +1,5 @@
-use Rattle.std.proofs.Common.{◌≡◌, ℕ, List, [], ◌++◌, sym, ◌∙◌, ap, subst}
+use Rattle.std.proofs.Common.{◌≡◌, ℕ, List, [], ◌++◌, refl, sym, ◌∙◌, ap, subst}
+use Rattle.std.proofs.lemmas.Result.{err_from_is_err_and}
 use Rattle.std.proofs.Math.Logic.{∥∥₁_elim, ∥∥₁_map}
 use Rattle.std.specs.List.{AllByRecursion}
 use Rattle.crsm_base.specs.declared.rec.Rec.{Rec}
@@ -39,3 +40,11 @@ returns-clause-begins c me n log is =
       lines = boot_lines me n log c.in_ok-batch.batch a.0.made;
       spelt = subst (AllByRecursion FitsRec) a.0.made.records a.0.records;
     }
+
+pub returns-in_err-batch-clause-refused : goal.returns-in_err-batch-clause-refused
+returns-in_err-batch-clause-refused c =
+    let p = err_from_is_err_and c.from_residual-in_err-batch.result c.from_residual-in_err-batch.ensures.1 in rw (p.1, p.2) refl
+
+pub returns-in_err-write_records-clause-refused : goal.returns-in_err-write_records-clause-refused
+returns-in_err-write_records-clause-refused c =
+    let p = err_from_is_err_and c.from_residual-in_err-write_records.result c.from_residual-in_err-write_records.ensures.1 in rw (p.1, p.2) refl
