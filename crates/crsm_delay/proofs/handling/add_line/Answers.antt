@@ -14,4 +14,4 @@ returns-in_default-add-clause-err c = no_memory _ c.args.text.now
 
 pub returns-clause-ok : goal.returns-clause-ok
 returns-clause-ok c =
-    next_reads c.args.draft.now c.add.new.self c.in-Some.line c.args.text.now c.in-Some.ensures.found.0 c.in-Some.ensures.found.1 (sym c.allows.ensures ∙ c.if-not-allows.false) c.in-Ok.ensures
+    next_reads c.args.draft.now c.add.new.self c.in-Some.line c.args.text.now c.in-Some.ensures.found.0 c.in-Some.ensures.found.1 (sym c.allows.ensures ∙ c.if-not-allows.false) c.in-Ok.ensures.ok
