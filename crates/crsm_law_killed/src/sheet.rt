@@ -1,5 +1,7 @@
 //! `StoppingSink`: a sink that does nothing from some call on.
 
+ghost use Rattle.std.specs.Prelude.{◌≡◌};
+
 use crate::calls::{counted, hand_on};
 use crsm_base::Failed;
 use crsm_io::Sink;
