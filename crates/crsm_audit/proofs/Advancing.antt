@@ -13,11 +13,11 @@ use Rattle.crsm_fact_log.specs.Logs.{AllFit, AreSpelt, with_records}
 use Rattle.crsm_replica_output.specs.declared.batch.Batch.{Batch}
 use Rattle.crsm_replica_output.specs.Made.{line_of}
 use Rattle.crsm_replica_rerun.specs.declared.rerun.Rerun.{Rerun}
-use Rattle.crsm_replica_rerun.specs.Replaying.{Advances, SaysLog}
+use Rattle.crsm_replica_rerun.specs.Replaying.{Advances, HasOpened, OpenedBehind, SaysLog}
 use Rattle.crsm_replica_rerun.specs.Sheets.{LeadTo, Replays, replica_of}
 use Rattle.crsm_replica_rerun.specs.Stages.{AnswersAll}
 use Rattle.crsm_text_sheet.specs.declared.line.SheetLine.{SheetLine}
-use Rattle.crsm_text_sheet.specs.declared.line.SheetLine.TheVariants.{Entry, Open}
+use Rattle.crsm_text_sheet.specs.declared.line.SheetLine.TheVariants.{Entry, Open, In, Tick, Suspect}
 use Rattle.crsm_text_sheet.specs.Sheets.{entry_line, sheet_of, turn_line}
 use Rattle.crsm_spec.specs.Draft.{Draft}
 use Rattle.crsm_spec.specs.Lists.{IsPrefixOf}
@@ -32,6 +32,16 @@ use Rattle.crsm_audit.specs.State.{AccountOf, FoundAccount, SheetAdvances, Sheet
 use Rattle.crsm_audit.proofs.Bodies.{last_body, one_prefix, same_prefix}
 use Rattle.crsm_audit.proofs.Logs.{AreLogged, any_start, dropped_more, kept_more, last_me, lines_count, log_more, logged_more, none_after, none_dropped, own_more, sheet_leaves, sheet_logged, some_steps, steps_count}
 use Rattle.crsm_audit.proofs.Places.{entry_not_last}
+
+-- ---- the log
+
+-- behind a line that is no body it was opened
+pub is_opened : (line : SheetLine) (rerun : Rerun) → ((b : List ℕ) → line ≢ Entry b) → OpenedBehind line rerun → HasOpened rerun
+is_opened (Entry b) rerun not_body o = absurd (not_body b refl)
+is_opened Open rerun not_body o = o
+is_opened (In r a b) rerun not_body o = o
+is_opened (Tick r) rerun not_body o = o
+is_opened (Suspect r m) rerun not_body o = o
 
 -- ---- a body
 

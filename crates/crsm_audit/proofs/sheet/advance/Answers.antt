@@ -4,7 +4,7 @@ use Rattle.crsm_replica_rerun.specs.Replaying.{Advances}
 use Rattle.crsm_text_sheet.specs.declared.line.SheetLine.{SheetLine}
 use Rattle.crsm_text_sheet.specs.declared.line.SheetLine.TheVariants.{Entry}
 use Rattle.crsm_audit.specs.State.{SheetAdvances}
-use Rattle.crsm_audit.proofs.Advancing.{Finds, Takes, finds, steps_on}
+use Rattle.crsm_audit.proofs.Advancing.{Finds, Takes, finds, is_opened, steps_on}
 use Rattle.crsm_audit.proofs.sheet.advance.Goals as goal
 
 pub returns-in_err-batch-clause-err : goal.returns-in_err-batch-clause-err
@@ -24,6 +24,9 @@ returns-in-Entry-clause-ok c = λ me n first own steps s.
     subst (λ (l : SheetLine). Advances me n first new own steps l c.in_ok-batch.batch) c.in-Entry.is (c.in_ok-batch.ensures.advances me n first own steps s.replayed) in
     subst (λ (l : SheetLine). SheetAdvances me n first new after own steps l) (sym c.in-Entry.is)
     (finds me n first c.args.rerun.now new c.args.account.now after own steps body c.in_ok-batch.batch s adv found)
+
+pub ledger-requires : goal.ledger-requires
+ledger-requires c = is_opened c.args.line.now c.feed.new.self c.in_default.not-Entry c.in_ok-batch.ensures.opened
 
 pub returns : goal.returns
 returns c = record {
