@@ -13,7 +13,7 @@ use Rattle.crsm_shell.specs.Shell.{HasLog, sends_of}
 use Rattle.crsm_shell.specs.Booting.{ReadsAsBefore, boot_body}
 use Rattle.crsm_replica_detector.specs.Wished.{AreWished, empty_receives}
 use Rattle.crsm_replica_detector.specs.Watching.{unwatched}
-use Rattle.crsm_node.specs.Sent.{HaveFates, fates_of, handed_out, packets_gone, packets_missing, steps_by_group}
+use Rattle.crsm_node.specs.Sent.{AreAddressed, HaveFates, fates_of, handed_out, packets_gone, packets_missing, steps_by_group}
 use Rattle.crsm_node.specs.Received.{GivesAll, datagrams_in}
 use Rattle.crsm_node.specs.Kept.{HasBehind, IsLeftOf, PutInTurn, bodies_in_log}
 use Rattle.crsm_node.specs.Serving.{Carries, Takes}
@@ -37,12 +37,12 @@ log_left : (replica_after start []).log ≡ with_records [] new_boot
 unfolding the_model replica_after
 log_left = refl
 
-takes_none : Takes start unwatched [] (clock_with 0 []) (clock_with 0 [])
+pub takes_none : Takes start unwatched [] (clock_with 0 []) (clock_with 0 [])
 unfolding AreWished GivesAll
 takes_none = record { wished = tt; can_be = tt; readings = refl }
 
-carries_none : (peers : List ℕ) → Carries peers start unwatched [] [] (at Moment.NewBegins).port (at Moment.NewEnds).port
-unfolding kept_turns datagrams_in packets_gone packets_missing handed_out fates_of gone not_gone sends_of packets_for empty_receives
+pub carries_none : (peers : List ℕ) → Carries peers start unwatched [] [] (at Moment.NewBegins).port (at Moment.NewEnds).port
+unfolding the_model kept_turns datagrams_in packets_gone packets_missing handed_out fates_of gone not_gone sends_of packets_for empty_receives
 carries_none peers = record {
   traffic = record { came = []; waited = refl; told = refl; are = refl; out = refl };
   empties = omega arith;
@@ -52,6 +52,10 @@ carries_none peers = record {
   framing = refl;
   borrowed_as = refl;
 }
+
+pub addressed_none : (peers : List ℕ) → AreAddressed peers start []
+unfolding the_model kept_turns gone handed_out fates_of sends_of
+addressed_none peers = tt
 
 -- ---- what its disk has
 
@@ -120,7 +124,7 @@ new_run peers two = record {
   most = omega arith;
   are_groups = tt;
   fates = tt;
-  addressed = tt;
+  addressed = addressed_none peers.items;
   takes = takes_none;
   carries = carries_none peers.items;
   goes = record { honest = refl; fill = refl; borrowed_as = refl; later = omega arith };

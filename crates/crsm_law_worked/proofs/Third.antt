@@ -13,15 +13,16 @@ use Rattle.crsm_shell.specs.Shell.{HasLog, sends_of}
 use Rattle.crsm_shell.specs.Booting.{ReadsAsBefore, boot_body}
 use Rattle.crsm_replica_detector.specs.Wished.{AreWished, empty_receives}
 use Rattle.crsm_replica_detector.specs.Watching.{unwatched}
-use Rattle.crsm_node.specs.Sent.{HaveFates, fates_of, handed_out, packets_gone, packets_missing, steps_by_group}
+use Rattle.crsm_node.specs.Sent.{AreAddressed, HaveFates, fates_of, handed_out, packets_gone, packets_missing, steps_by_group}
 use Rattle.crsm_node.specs.Received.{GivesAll, datagrams_in}
 use Rattle.crsm_node.specs.Kept.{HasBehind, IsLeftOf, PutInTurn, bodies_in_log}
 use Rattle.crsm_node.specs.Serving.{Carries, Takes}
 use Rattle.crsm_node.specs.Running.{KeepsLife, RunsLife}
-use Rattle.crsm_log.specs.Format.{found, reading}
+use Rattle.crsm_log.specs.Claim.{IsOpenTo}
+use Rattle.crsm_log.specs.Format.{cluster_of, found, is_cluster, length_of, may_stand, reading, stands}
 use Rattle.crsm_node.specs.declared.errors.NodeError.{NodeError}
 use Rattle.crsm_law_worked.specs.Values.{kept_log, second_boot, third_life}
-use Rattle.crsm_law_worked.specs.Files.{first_boot_body, first_kept_body, kept_bodies, lost_body, lost_file, second_boot_body, third_file}
+use Rattle.crsm_law_worked.specs.Files.{file_with, first_boot_body, first_kept_body, kept_bodies, lost_body, lost_file, second_boot_body, third_file}
 use Rattle.crsm_law_worked.specs.Orders.{order_of}
 use Rattle.crsm_law_worked.specs.Devices.{LeftSince, Moment, at, clock_with}
 use Rattle.crsm_law_worked.proofs.Logs.{behind_those, has_log, kept_lost, kept_third, reads_lost, reads_third, room_for_third_boot}
@@ -37,12 +38,12 @@ log_left : (replica_after start []).log ≡ with_records kept_log second_boot
 unfolding the_model replica_after
 log_left = refl
 
-takes_none : Takes start unwatched [] (clock_with 0 []) (clock_with 0 [])
+pub takes_none : Takes start unwatched [] (clock_with 0 []) (clock_with 0 [])
 unfolding AreWished GivesAll
 takes_none = record { wished = tt; can_be = tt; readings = refl }
 
-carries_none : (peers : List ℕ) → Carries peers start unwatched [] [] (at Moment.ThirdBegins).port (at Moment.ThirdEnds).port
-unfolding kept_turns datagrams_in packets_gone packets_missing handed_out fates_of gone not_gone sends_of packets_for empty_receives
+pub carries_none : (peers : List ℕ) → Carries peers start unwatched [] [] (at Moment.ThirdBegins).port (at Moment.ThirdEnds).port
+unfolding the_model kept_turns datagrams_in packets_gone packets_missing handed_out fates_of gone not_gone sends_of packets_for empty_receives
 carries_none peers = record {
   traffic = record { came = []; waited = refl; told = refl; are = refl; out = refl };
   empties = omega arith;
@@ -52,6 +53,10 @@ carries_none peers = record {
   framing = refl;
   borrowed_as = refl;
 }
+
+pub addressed_none : (peers : List ℕ) → AreAddressed peers start []
+unfolding the_model kept_turns gone handed_out fates_of sends_of
+addressed_none peers = tt
 
 -- ---- what its disk has
 
@@ -104,6 +109,11 @@ keeps peers two = record {
   };
 }
 
+-- the file names no cluster
+pub names_none : IsOpenTo 0 (cluster_of lost_file)
+unfolding the_model lost_file file_with first_boot_body first_kept_body lost_body is_cluster length_of may_stand stands
+names_none = tt
+
 -- ---- the run
 
 unfoldable pub third_run : (peers : Vec ℕ Global) (two : length peers.items ≡ 2) → RunsLife (order_of 0 peers two) (at Moment.ThirdBegins) (at Moment.ThirdEnds) ends.Done
@@ -116,11 +126,11 @@ third_run peers two = record {
   me = refl;
   ended = refl;
   kept = kept_lost;
-  found = λ _. (reads_lost, tt);
+  found = λ _. (reads_lost, names_none);
   most = omega arith;
   are_groups = tt;
   fates = tt;
-  addressed = tt;
+  addressed = addressed_none peers.items;
   takes = takes_none;
   carries = carries_none peers.items;
   goes = record { honest = refl; fill = refl; borrowed_as = refl; later = omega arith };
