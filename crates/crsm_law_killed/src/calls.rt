@@ -1,6 +1,6 @@
 //! The calls that a device hands on.
 
-ghost use Rattle.std.specs.Prelude.{◌≡◌, ◌≤◌, OnOk, OnErr};
+ghost use Rattle.std.specs.Prelude.{◌≡◌, ◌≤◌, ◌<◌, ◌-◌, OnOk, OnErr};
 ghost use Rattle.crsm_port_faults.specs.Counts.{Rose};
 
 use crsm_base::Failed;
@@ -8,6 +8,8 @@ use crsm_port_faults::raise;
 
 /// Counts a call down. `Failed` if it is not to be handed on; a fault is counted then.
 pub fn hand_on(left: &mut u64, faults: &mut u64) -> Result<(), Failed>
+    ensures counts { left.new ≡ left.old - 1 }
+    ensures some { OnOk result (0 < left.old) }
     ensures same { OnOk result (faults.new ≡ faults.old) }
     ensures later { faults.old ≤ faults.new }
     ensures failed { OnErr result (Rose faults.old faults.new) }

@@ -1,6 +1,6 @@
 //! `StoppingSink`: a sink that does nothing from some call on.
 
-ghost use Rattle.std.specs.Prelude.{◌≡◌};
+ghost use Rattle.std.specs.Prelude.{◌≡◌, ◌-◌};
 
 use crate::calls::{counted, hand_on};
 use crsm_base::Failed;
@@ -18,7 +18,8 @@ pub struct StoppingSink<O> {
 impl<O: Drop> StoppingSink<O> {
     /// Returns a sink that hands on `calls` calls to this one.
     pub fn new(inner: O, calls: u64) -> StoppingSink<O>
-        ensures { result.inner ≡ inner }
+        ensures inner { result.inner ≡ inner }
+        ensures left { result.left ≡ calls }
     {
         StoppingSink {
             inner,
@@ -40,7 +41,10 @@ impl<O: Sink> Sink for StoppingSink<O> {
 
     ghost faults = { λ s. s.faults };
 
-    fn write(&mut self, piece: &[u8]) -> Result<usize, Failed> {
+    fn write(&mut self, piece: &[u8]) -> Result<usize, Failed>
+        ensures counts { self.new.left ≡ self.old.left - 1 }
+        ensures stops { self.old.left ≡ 0 → self.new.inner ≡ self.old.inner }
+    {
         hand_on(&mut self.left, &mut self.faults)?;
         let answer = self.inner.write(piece);
         counted(&mut self.faults, answer)

@@ -21,9 +21,9 @@ returns g c =
       before = before;
       after = after;
       ran =
-          subst (λ (d : g.row.D.Denot). Ran (at d c.args.port c.args.clock c.args.sheet) last) c.new-disk.ensures
-          (subst (λ (p : g.row.P.Denot). Ran (at old_disk.inner p c.args.clock c.args.sheet) last) c.new-port.ensures
-          (subst (λ (o : g.row.O.Denot). Ran (at old_disk.inner old_port.inner c.args.clock o) last) c.new-sheet.ensures
+          subst (λ (d : g.row.D.Denot). Ran (at d c.args.port c.args.clock c.args.sheet) last) c.new-disk.ensures.inner
+          (subst (λ (p : g.row.P.Denot). Ran (at old_disk.inner p c.args.clock c.args.sheet) last) c.new-port.ensures.inner
+          (subst (λ (o : g.row.O.Denot). Ran (at old_disk.inner old_port.inner c.args.clock o) last) c.new-sheet.ensures.inner
           (subst (λ (d : g.row.D.Denot). Ran (at old_disk.inner old_port.inner c.args.clock old_sheet.inner) (at d c.into_inner.result clock c.into_inner-3.result)) (sym c.into_inner-2.ensures)
           (subst (λ (p : g.row.P.Denot). Ran (at old_disk.inner old_port.inner c.args.clock old_sheet.inner) (at new_disk.inner p clock c.into_inner-3.result)) (sym c.into_inner.ensures)
           (subst (λ (o : g.row.O.Denot). Ran (at old_disk.inner old_port.inner c.args.clock old_sheet.inner) (at new_disk.inner new_port.inner clock o)) (sym c.into_inner-3.ensures)
