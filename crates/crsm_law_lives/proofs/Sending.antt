@@ -13,12 +13,12 @@ use Rattle.crsm_spec.specs.Draft.{begun, keep}
 use Rattle.crsm_spec.specs.Step.{boot, first_boot, founding_boot, boot_again}
 use Rattle.crsm_spec.specs.Node.{Turn, turn, outputs_from}
 use Rattle.crsm_fact_log.proofs.Lists.{all_at}
-use Rattle.crsm_spec_process.specs.Lives.{Group, Life}
+use Rattle.crsm_spec_process.specs.Lives.{Group, HaveFates, Life, before_last}
 use Rattle.crsm_law_cluster.specs.Clusters.{Event, Outgoing, outgoing_of, Process, Host, Cluster, host_at, next_out, started, with_turn, kept, while_up, with_process, posted, after, unborn}
 use Rattle.crsm_spec_process.specs.Turns.{gone, replica_after}
 use Rattle.crsm_law_lives.specs.Events.{take_events, fate_events, group_events, life_events, left_by, node_of, events_of, lives_of}
 use Rattle.crsm_law_lives.specs.Premises.{FindWhatIsLeft}
-use Rattle.crsm_law_lives.specs.Sending.{handed_by, sent_from, sent_by, HaveFates, HasFates, out_at, outs_from}
+use Rattle.crsm_law_lives.specs.Sending.{handed_by, sent_from, sent_by, HasFates, out_at, outs_from}
 use Rattle.crsm_law_lives.specs.Laws.{SendsAreTheirs}
 use Rattle.crsm_law_lives.proofs.Processes.{life_left}
 use Rattle.crsm_law_lives.proofs.Laws.{life_own, unborn_there, unborn_size}
@@ -145,20 +145,29 @@ module _ (k n : ℕ) where
       ∙ ap (own_outs k n (Event.Keeps k ∷ fate_events k g.fates)) (takes_run g.turns log r [] [])
       ∙ keep_outs g.fates log (replica_after r g.turns) (handed_by r g.turns)
 
-  groups_outs : (gs : List Group) (log : Log) (r : Replica) → HaveFates r gs → own_outs k n (flat_map (group_events k) gs) (up log r [] []) ≡ sent_from r gs
-  unfolding own_outs sent_from
-  groups_outs [] log r h = refl
-  groups_outs (g ∷ gs) log r h =
-      let s = replica_after r g.turns in
-      let left = drop (length g.fates) (handed_by r g.turns) in
-      let rest : own_outs k n (flat_map (group_events k) gs) (up s.log s [] left) ≡ sent_from s gs = elim h.0 [
-        | inl none ↦ ap (λ z. own_outs k n (flat_map (group_events k) z) (up s.log s [] left)) none ∙ ap (sent_from s) (sym none)
-        | inr all ↦ ap (λ z. own_outs k n (flat_map (group_events k) gs) (up s.log s [] z)) (drop_all (length g.fates) (handed_by r g.turns) all) ∙ groups_outs gs s.log s h.1
-      ] in
+  -- what this replica hands out of the group and has no fate
+  left_of : Replica → Group → List Outgoing
+  left_of r g = drop (length g.fates) (handed_by r g.turns)
+
+  -- of a group and of those behind it
+  group_then : (g : Group) (gs : List Group) (log : Log) (r : Replica) →
+      own_outs k n (flat_map (group_events k) gs) (up (replica_after r g.turns).log (replica_after r g.turns) [] (left_of r g)) ≡ sent_from (replica_after r g.turns) gs →
+      own_outs k n (flat_map (group_events k) (g ∷ gs)) (up log r [] []) ≡ sent_from r (g ∷ gs)
+  unfolding sent_from left_of
+  group_then g gs log r rest =
       outs_then k n (group_events k g) (flat_map (group_events k) gs) (up log r [] [])
       ∙ ap (λ z. z ++ own_outs k n (flat_map (group_events k) gs) (own_run k n (group_events k g) (up log r [] []))) (group_outs g log r)
       ∙ ap (λ p. gone (handed_by r g.turns) g.fates ++ own_outs k n (flat_map (group_events k) gs) p) (group_run g log r)
       ∙ ap (λ z. gone (handed_by r g.turns) g.fates ++ z) rest
+
+  groups_outs : (gs : List Group) (log : Log) (r : Replica) → HaveFates handed_by r (before_last gs) → own_outs k n (flat_map (group_events k) gs) (up log r [] []) ≡ sent_from r gs
+  unfolding own_outs sent_from HaveFates before_last left_of
+  groups_outs [] log r h = refl
+  groups_outs (g ∷ []) log r h = group_then g [] log r refl
+  groups_outs (g ∷ x ∷ gs) log r h =
+      let s = replica_after r g.turns in
+      group_then g (x ∷ gs) log r
+          (ap (λ z. own_outs k n (flat_map (group_events k) (x ∷ gs)) (up s.log s [] z)) (drop_all (length g.fates) (handed_by r g.turns) h.0) ∙ groups_outs (x ∷ gs) s.log s h.1)
 
   stop_outs : (ended : Bool) (p : Host) → own_outs k n (cond ended (Event.Stops k ∷ []) []) p ≡ []
   unfolding own_outs own_out
@@ -173,7 +182,7 @@ module _ (k n : ℕ) where
   unfolding own_outs own_out
   boot_outs p = refl
 
-  lived_outs : (found : Log) (gs : List Group) (lost : List (Turn × ℕ)) (ended : Bool) → HaveFates (boot k n found).replica gs →
+  lived_outs : (found : Log) (gs : List Group) (lost : List (Turn × ℕ)) (ended : Bool) → HaveFates handed_by (boot k n found).replica (before_last gs) →
       own_outs k n (Event.Boots k ∷ flat_map (group_events k) gs ++ take_events k lost ++ cond ended (Event.Stops k ∷ []) []) (record { log = found; process = None }) ≡ sent_from (boot k n found).replica gs
   lived_outs found gs lost ended h =
       let p : Host = record { log = found; process = None } in

@@ -1,10 +1,10 @@
 -- The datagrams and replies that a process sends, and those of a history.
-use Rattle.std.specs.Prelude.{◌≡◌, ◌⊎◌, ℕ, ◌==◌, List, [], ◌∷◌, ◌++◌, length, if◌then◌else◌, option_to_list}
+use Rattle.std.specs.Prelude.{ℕ, ◌==◌, List, [], ◌∷◌, ◌++◌, if◌then◌else◌, option_to_list}
 use Rattle.std.specs.List.{flat_map}
 use Rattle.crsm_spec.specs.Replica.{Replica}
 use Rattle.crsm_spec.specs.Step.{boot}
 use Rattle.crsm_spec.specs.Node.{Turn, outputs_from}
-use Rattle.crsm_spec_process.specs.Lives.{Group, Life}
+use Rattle.crsm_spec_process.specs.Lives.{Group, HaveFates, Life, before_last}
 use Rattle.crsm_spec_process.specs.Turns.{gone, replica_after}
 use Rattle.crsm_law_cluster.specs.Clusters.{Event, Outgoing, outgoing_of, Cluster, next_out, after}
 
@@ -25,13 +25,8 @@ sent_by n l = sent_from (boot l.me n l.found).replica l.groups
 
 -- Each datagram and reply of a group was sent or failed before the next group is kept; the process may end within the
 -- last.
-abbrev pub HaveFates : Replica → List Group → Type 0
-HaveFates r [] = Unit {0}
-HaveFates r (g ∷ groups) =
-    ((groups ≡ []) ⊎ (length g.fates ≡ length (handed_by r g.turns))) × HaveFates (replica_after r g.turns) groups
-
 abbrev pub HasFates : ℕ → Life → Type 0
-HasFates n l = HaveFates (boot l.me n l.found).replica l.groups
+HasFates n l = HaveFates handed_by (boot l.me n l.found).replica (before_last l.groups)
 
 -- ---- of a history
 

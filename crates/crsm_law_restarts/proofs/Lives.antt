@@ -6,7 +6,7 @@ use Rattle.crsm_base.specs.Records.{FitsRec}
 use Rattle.crsm_spec.specs.Replica.{Replica}
 use Rattle.crsm_spec.specs.Step.{boot}
 use Rattle.crsm_spec.specs.Node.{Turn, outputs_from, turn}
-use Rattle.crsm_spec_process.specs.Lives.{Life, kept_turns}
+use Rattle.crsm_spec_process.specs.Lives.{HaveFates, Life, before_last, kept_turns}
 use Rattle.crsm_spec_process.specs.Turns.{replica_after}
 use Rattle.crsm_fact_step.proofs.Batches.{turn_grown}
 use Rattle.crsm_ledger.specs.Recovered.{AreKept}
@@ -16,8 +16,7 @@ use Rattle.crsm_shell.specs.Flushing.{IsFull}
 use Rattle.crsm_shell.specs.Shell.{HasLog, group_body, records_of}
 use Rattle.crsm_law_lives.specs.Events.{left_by}
 use Rattle.crsm_law_lives.specs.Premises.{IsProcess}
-use Rattle.crsm_law_lives.specs.Sending.{HasFates}
-use Rattle.crsm_law_lives.specs.Sending as laws
+use Rattle.crsm_law_lives.specs.Sending.{HasFates, handed_by}
 use Rattle.crsm_law_processes.specs.Files.{LeavesBodies, size_of, with_lost_kept}
 use Rattle.crsm_law_processes.proofs.Bodies.{all_turns, kept_after_all}
 use Rattle.crsm_node.specs.Kept.{HasBehind, bodies_in_log}
@@ -124,7 +123,7 @@ module _ (order : NodeOrder) (old new : Devices) (end : NodeEnd) (run : RunsLife
   }
 
   have_its_fates : HasFates order.n l
-  have_its_fates = subst (λ (k : ℕ). laws.HaveFates (boot k order.n l.found).replica l.groups) (sym run.me) (have_fates start l.groups run.fates)
+  have_its_fates = subst (λ (k : ℕ). HaveFates handed_by (boot k order.n l.found).replica (before_last l.groups)) (sym run.me) (have_fates start l.groups run.fates)
 
   pub without_lost : order.me < 15 → size_of run.bodies ≤ 2 ^ 32 → (c : List ℕ) → HasBehind old.disk.seen (boots ∷ bodies) c → LeadsTo order.n order.me run.bodies l c
   without_lost number room c is =
@@ -178,7 +177,7 @@ module _ (order : NodeOrder) (old new : Devices) (end : NodeEnd) (run : RunsLife
     have_all_fates : HasFates order.n (with_lost_kept l)
     unfolding with_lost_kept
     have_all_fates =
-        subst (λ (k : ℕ). laws.HaveFates (boot k order.n l.found).replica (l.groups ++ record { turns = l.lost; fates = [] } ∷ [])) (sym run.me)
+        subst (λ (k : ℕ). HaveFates handed_by (boot k order.n l.found).replica (before_last (l.groups ++ record { turns = l.lost; fates = [] } ∷ []))) (sym run.me)
         (have_fates_more start l.groups l.lost run.fates)
 
     all_mine : ((with_lost_kept l).me ≡ order.me) × ((with_lost_kept l).ended ≡ true)

@@ -1,5 +1,5 @@
 -- What a node's port sent, and what a process sends in a history.
-use Rattle.std.proofs.Common.{◌≡◌, ℕ, Bool, true, false, List, [], ◌∷◌, ◌++◌, length, map, refl, sym, ◌∙◌, ap, inl, inr, arith}
+use Rattle.std.proofs.Common.{◌≡◌, ℕ, Bool, true, false, List, [], ◌∷◌, ◌++◌, length, map, refl, sym, ◌∙◌, ap, arith}
 use Rattle.std.specs.List.{flat_map}
 use Rattle.std.proofs.lemmas.Grind.{flat_map-append}
 use Rattle.std.proofs.lemmas.List.{length-map, map-append}
@@ -9,15 +9,14 @@ use Rattle.crsm_spec.specs.Draft.{Draft, Reply}
 use Rattle.crsm_spec.specs.Replica.{Replica}
 use Rattle.crsm_spec.specs.Step.{boot}
 use Rattle.crsm_spec.specs.Node.{Turn, outputs_from, turn}
-use Rattle.crsm_spec_process.specs.Lives.{Group, kept_turns}
+use Rattle.crsm_spec_process.specs.Lives.{Group, HaveFates, before_last, kept_turns}
 use Rattle.crsm_spec_process.specs.Turns.{gone, replica_after}
 use Rattle.crsm_shell.specs.Shell.{sends_in, sends_of}
 use Rattle.crsm_replica_io.specs.Outgoing.{packets_for}
 use Rattle.crsm_replica_output.specs.Made.{to_address, to_replica}
 use Rattle.crsm_law_cluster.specs.Clusters.{Outgoing, outgoing_of}
 use Rattle.crsm_law_lives.specs.Sending.{handed_by, sent_by, sent_from}
-use Rattle.crsm_law_lives.specs.Sending as laws
-use Rattle.crsm_node.specs.Sent.{HaveFates, fates_of, handed_out, packets_gone}
+use Rattle.crsm_node.specs.Sent.{fates_of, handed_out, packets_gone, sends_from}
 use Rattle.crsm_law_restarts.specs.Laws.{PacketsAreTheirs, send_of}
 
 -- ---- what is handed out
@@ -55,17 +54,19 @@ of_turns r ts = of_steps (outputs_from r ts)
 as_many : (r : Replica) (ts : List (Turn × ℕ)) → length (sends_of (outputs_from r ts)) ≡ length (handed_by r ts)
 as_many r ts = ap length (of_turns r ts) ∙ length-map (handed_by r ts) send_of
 
--- the fates of groups are those of the law
-pub have_fates : (r : Replica) (gs : List Group) → HaveFates r gs → laws.HaveFates r gs
-unfolding HaveFates
+-- what a node hands out has as many fates as what a history sends
+pub have_fates : (r : Replica) (gs : List Group) → HaveFates sends_from r gs → HaveFates handed_by r (before_last gs)
+unfolding HaveFates before_last
 have_fates r [] h = tt
-have_fates r (g ∷ gs) h = (inr (h.0 ∙ as_many r g.turns), have_fates (replica_after r g.turns) gs h.1)
+have_fates r (g ∷ []) h = tt
+have_fates r (g ∷ x ∷ gs) h = (h.0 ∙ as_many r g.turns, have_fates (replica_after r g.turns) (x ∷ gs) h.1)
 
--- so are they with one group more, of which nothing was sent
-pub have_fates_more : (r : Replica) (gs : List Group) (ts : List (Turn × ℕ)) → HaveFates r gs → laws.HaveFates r (gs ++ record { turns = ts; fates = [] } ∷ [])
-unfolding HaveFates
-have_fates_more r [] ts h = (inl refl, tt)
-have_fates_more r (g ∷ gs) ts h = (inr (h.0 ∙ as_many r g.turns), have_fates_more (replica_after r g.turns) gs ts h.1)
+-- so have they where one group more is kept, of which nothing was sent
+pub have_fates_more : (r : Replica) (gs : List Group) (ts : List (Turn × ℕ)) → HaveFates sends_from r gs → HaveFates handed_by r (before_last (gs ++ record { turns = ts; fates = [] } ∷ []))
+unfolding HaveFates before_last
+have_fates_more r [] ts h = tt
+have_fates_more r (g ∷ []) ts h = (h.0 ∙ as_many r g.turns, tt)
+have_fates_more r (g ∷ x ∷ gs) ts h = (h.0 ∙ as_many r g.turns, have_fates_more (replica_after r g.turns) (x ∷ gs) ts h.1)
 
 -- ---- what goes out
 
@@ -93,7 +94,7 @@ handed_both : (r : Replica) (ts us : List (Turn × ℕ)) → sends_of (outputs_f
 unfolding sends_of
 handed_both r ts us = ap (flat_map sends_in) (turns_both r ts us) ∙ flat_map-append sends_in (outputs_from r ts) (outputs_from (replica_after r ts) us)
 
-pub all_gone : (r : Replica) (gs : List Group) → HaveFates r gs → gone (handed_out r gs) (fates_of gs) ≡ map send_of (sent_from r gs)
+pub all_gone : (r : Replica) (gs : List Group) → HaveFates sends_from r gs → gone (handed_out r gs) (fates_of gs) ≡ map send_of (sent_from r gs)
 unfolding HaveFates handed_out fates_of kept_turns sent_from sends_of outputs_from gone
 all_gone r [] h = refl
 all_gone r (g ∷ gs) h =

@@ -5,7 +5,7 @@ use Rattle.crsm_base.specs.declared.send.Send.{Send}
 use Rattle.crsm_spec.specs.Lists.{Among}
 use Rattle.crsm_spec.specs.Draft.{Draft}
 use Rattle.crsm_spec.specs.Step.{boot}
-use Rattle.crsm_spec_process.specs.Lives.{Life, kept_steps}
+use Rattle.crsm_spec_process.specs.Lives.{HaveFates, Life, kept_steps}
 use Rattle.crsm_replica_io.specs.Outgoing.{packets_for}
 use Rattle.crsm_replica_output.specs.Made.{to_address, to_replica}
 use Rattle.crsm_law_cluster.specs.Clusters.{Event, Outgoing}
@@ -16,7 +16,7 @@ use Rattle.crsm_law_lives.specs.Laws.{IsRightStep}
 use Rattle.crsm_law_lives.specs.Sending.{HasFates, sent_by}
 use Rattle.crsm_law_processes.specs.Files.{RanOnFiles}
 use Rattle.crsm_node.specs.Running.{Devices}
-use Rattle.crsm_node.specs.Sent.{HaveFates, packets_gone}
+use Rattle.crsm_node.specs.Sent.{packets_gone, sends_from}
 use Rattle.crsm_law_restarts.specs.Runs.{AreRunsOf, Run}
 use Rattle.crsm_law_restarts.specs.Processes.{AreAlike, Were}
 
@@ -45,5 +45,5 @@ send_of (Outgoing.ToClient reply) = to_address reply
 -- What a node's port sent of a process is what the process sends in a history.
 abbrev pub PacketsAreTheirs : Type 0
 PacketsAreTheirs =
-    (n : ℕ) (peers : List ℕ) (l : Life) → HaveFates (boot l.me n l.found).replica l.groups →
+    (n : ℕ) (peers : List ℕ) (l : Life) → HaveFates sends_from (boot l.me n l.found).replica l.groups →
     packets_gone peers (boot l.me n l.found).replica l.groups ≡ packets_for peers (map send_of (sent_by n l))

@@ -12,7 +12,7 @@ use Rattle.crsm_spec.specs.Node.{Turn, outputs_from}
 use Rattle.crsm_law_examples.proofs.Opened.{the_model}
 use Rattle.crsm_spec_process.specs.Groups.{AreGroups}
 use Rattle.crsm_spec_process.specs.Turns.{gone, not_gone, replica_after}
-use Rattle.crsm_spec_process.specs.Lives.{kept_turns}
+use Rattle.crsm_spec_process.specs.Lives.{HaveFates, kept_turns}
 use Rattle.crsm_port.specs.Meaning.{plain}
 use Rattle.crsm_replica_io.specs.Outgoing.{packet_for, packets_for, raised_by}
 use Rattle.crsm_replica_output.specs.Made.{to_address}
@@ -23,7 +23,7 @@ use Rattle.crsm_shell.specs.Taking.{heard_in}
 use Rattle.crsm_replica_detector.specs.Wished.{AreWished, empty_receives}
 use Rattle.crsm_replica_detector.specs.Wishing.{is_up_to, is_wanted, may_suspect, should_be_members, should_end, suspects, tick_is_due, wanted, wish, wish_at}
 use Rattle.crsm_replica_detector.specs.Watching.{unwatched}
-use Rattle.crsm_node.specs.Sent.{AreAddressed, HasAddress, HaveFates, fates_of, handed_out, packets_gone, packets_missing, steps_by_group}
+use Rattle.crsm_node.specs.Sent.{AreAddressed, HasAddress, fates_of, handed_out, packets_gone, packets_missing, sends_from, steps_by_group}
 use Rattle.crsm_node.specs.Received.{GivesAll, datagrams_in}
 use Rattle.crsm_node.specs.Kept.{HasBehind, HasBehindOrMore, IsLeftOf, PutInTurn, bodies_in_log}
 use Rattle.crsm_node.specs.Serving.{Carries, IsLeftAtEnd, StopsAt, Takes, maybe_kept, turns_by_group, with_lost}
@@ -82,7 +82,7 @@ are_groups = (
 
 -- ---- what it sends
 
-pub have_fates : HaveFates start first_life.groups
+pub have_fates : HaveFates sends_from start first_life.groups
 unfolding the_model HaveFates sends_of sends_in asked
 have_fates = (refl, tt)
 

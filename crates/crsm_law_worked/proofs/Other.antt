@@ -11,7 +11,7 @@ use Rattle.crsm_spec.specs.Node.{Turn}
 use Rattle.crsm_law_examples.proofs.Opened.{the_model}
 use Rattle.crsm_spec_process.specs.Groups.{AreGroups}
 use Rattle.crsm_spec_process.specs.Turns.{gone, not_gone, replica_after}
-use Rattle.crsm_spec_process.specs.Lives.{kept_turns}
+use Rattle.crsm_spec_process.specs.Lives.{HaveFates, kept_turns}
 use Rattle.crsm_port.specs.Meaning.{plain}
 use Rattle.crsm_replica_io.specs.Outgoing.{packet_for, packets_for, raised_by}
 use Rattle.crsm_replica_output.specs.Made.{to_address}
@@ -20,7 +20,7 @@ use Rattle.crsm_shell.specs.Booting.{ReadsAsBefore, boot_body}
 use Rattle.crsm_replica_detector.specs.Wished.{AreWished, empty_receives}
 use Rattle.crsm_replica_detector.specs.Watching.{unwatched}
 use Rattle.crsm_replica_detector.specs.Wishing.{wish}
-use Rattle.crsm_node.specs.Sent.{AreAddressed, HasAddress, HaveFates, fates_of, handed_out, packets_gone, packets_missing, steps_by_group}
+use Rattle.crsm_node.specs.Sent.{AreAddressed, HasAddress, fates_of, handed_out, packets_gone, packets_missing, sends_from, steps_by_group}
 use Rattle.crsm_node.specs.Received.{GivesAll, datagrams_in}
 use Rattle.crsm_node.specs.Kept.{HasBehind, IsLeftOf, PutInTurn, bodies_in_log}
 use Rattle.crsm_node.specs.Serving.{Carries, Takes, turns_by_group, with_lost}
@@ -70,7 +70,7 @@ are_groups = (record { before = []; last = (Turn.In 78 asked_too, 7); are = refl
 
 -- ---- what it sends
 
-pub have_fates : HaveFates start other_life.groups
+pub have_fates : HaveFates sends_from start other_life.groups
 unfolding the_model HaveFates sends_of sends_in asked_too
 have_fates = (refl, tt)
 

@@ -11,7 +11,7 @@ use Rattle.crsm_spec.specs.Node.{Turn}
 use Rattle.crsm_law_examples.proofs.Opened.{the_model}
 use Rattle.crsm_spec_process.specs.Groups.{AreGroups, IsGroup}
 use Rattle.crsm_spec_process.specs.Turns.{gone, not_gone, replica_after}
-use Rattle.crsm_spec_process.specs.Lives.{kept_turns}
+use Rattle.crsm_spec_process.specs.Lives.{HaveFates, kept_turns}
 use Rattle.crsm_port.specs.Meaning.{plain}
 use Rattle.crsm_replica_io.specs.Outgoing.{packet_for, packets_for, raised_by}
 use Rattle.crsm_replica_output.specs.Made.{to_address}
@@ -21,7 +21,7 @@ use Rattle.crsm_shell.specs.Taking.{heard_in}
 use Rattle.crsm_replica_detector.specs.Wished.{AreWished, empty_receives}
 use Rattle.crsm_replica_detector.specs.Wishing.{is_up_to, is_wanted, may_suspect, should_be_members, should_end, suspects, tick_is_due, wanted, wish, wish_at}
 use Rattle.crsm_replica_detector.specs.Watching.{unwatched}
-use Rattle.crsm_node.specs.Sent.{AreAddressed, HasAddress, HaveFates, fates_of, handed_out, packets_gone, packets_missing, steps_by_group}
+use Rattle.crsm_node.specs.Sent.{AreAddressed, HasAddress, fates_of, handed_out, packets_gone, packets_missing, sends_from, steps_by_group}
 use Rattle.crsm_node.specs.Received.{GivesAll, datagrams_in}
 use Rattle.crsm_node.specs.Kept.{HasBehind, IsLeftOf, PutInTurn, bodies_in_log}
 use Rattle.crsm_node.specs.Serving.{Carries, Takes, turns_by_group, with_lost}
@@ -98,7 +98,7 @@ are_groups = (
 
 -- ---- what it sends
 
-pub have_fates : HaveFates start second_life.groups
+pub have_fates : HaveFates sends_from start second_life.groups
 unfolding the_model HaveFates replica_after sends_of sends_in asked_too
 have_fates = (refl, (refl, (refl, (refl, tt))))
 

@@ -7,13 +7,13 @@ use Rattle.crsm_spec.specs.Step.{boot}
 use Rattle.crsm_fact_log.specs.Logs.{with_records}
 use Rattle.crsm_law_examples.proofs.Opened.{the_model}
 use Rattle.crsm_spec_process.specs.Turns.{gone, not_gone, replica_after}
-use Rattle.crsm_spec_process.specs.Lives.{kept_turns}
+use Rattle.crsm_spec_process.specs.Lives.{HaveFates, kept_turns}
 use Rattle.crsm_replica_io.specs.Outgoing.{packets_for}
 use Rattle.crsm_shell.specs.Shell.{HasLog, sends_of}
 use Rattle.crsm_shell.specs.Booting.{ReadsAsBefore, boot_body}
 use Rattle.crsm_replica_detector.specs.Wished.{AreWished, empty_receives}
 use Rattle.crsm_replica_detector.specs.Watching.{unwatched}
-use Rattle.crsm_node.specs.Sent.{AreAddressed, HaveFates, fates_of, handed_out, packets_gone, packets_missing, steps_by_group}
+use Rattle.crsm_node.specs.Sent.{AreAddressed, fates_of, handed_out, packets_gone, packets_missing, steps_by_group}
 use Rattle.crsm_node.specs.Received.{GivesAll, datagrams_in}
 use Rattle.crsm_node.specs.Kept.{HasBehind, IsLeftOf, PutInTurn, bodies_in_log}
 use Rattle.crsm_node.specs.Serving.{Carries, Takes}

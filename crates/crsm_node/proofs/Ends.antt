@@ -8,7 +8,7 @@ use Rattle.crsm_disk.specs.Meaning.{LeavesOnly, Only}
 use Rattle.crsm_port_faults.specs.Counts.{Rose}
 use Rattle.crsm_io.specs.Streams.{Puts, PutsPrefix}
 use Rattle.crsm_spec_process.specs.Groups.{AreGroups, IsGroup}
-use Rattle.crsm_spec_process.specs.Lives.{Group, kept_turns}
+use Rattle.crsm_spec_process.specs.Lives.{Group, HaveFates, kept_turns}
 use Rattle.crsm_log.specs.Format.{bodies_of}
 use Rattle.crsm_log.specs.Log.{Goes}
 use Rattle.crsm_spec.specs.Node.{Turn, outputs_from}
@@ -21,7 +21,7 @@ use Rattle.crsm_base.specs.Records.{FitsRec}
 use Rattle.crsm_shell.specs.Shell.{group_body, records_of, sends_of}
 use Rattle.crsm_node.specs.Devices.{Node}
 use Rattle.crsm_node.specs.Kept.{HasBehind, HasLogOf, IsLeftOf, bodies_in_log, body_in_log}
-use Rattle.crsm_node.specs.Sent.{AreAddressed, HaveFates}
+use Rattle.crsm_node.specs.Sent.{AreAddressed, sends_from}
 use Rattle.crsm_node.specs.Serving.{Carries, IsLeftAtEnd, Keeps, MayGoOn, Serves, StopsAt, Takes, maybe_kept, turns_by_group, turns_text, with_lost}
 use Rattle.crsm_node.specs.declared.errors.NodeError.{NodeError}
 use Rattle.crsm_node.specs.declared.errors.NodeError.TheVariants.{PortFault, DiskFault, LogFull, WriteFault, Failed, NoMemory}
@@ -36,7 +36,7 @@ use Rattle.crsm_node.proofs.Turns.{bodies_more, kept_more}
 pub record SoFar (r : Replica) (w : Watch) (groups : List Group) (ts : List (Turn × ℕ)) (start now : Node) : Type 0 where
   pub takes : Takes r w (kept_turns groups ++ ts) start.clock now.clock
   pub carries : Carries start.peers r w (kept_turns groups ++ ts) groups start.port now.port
-  pub fates : HaveFates r groups
+  pub fates : HaveFates sends_from r groups
   pub addressed : AreAddressed start.peers r groups
   pub disk : OnDisk r groups start.disk now.disk
   pub peers : now.peers ≡ start.peers

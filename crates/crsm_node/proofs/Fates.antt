@@ -9,12 +9,12 @@ use Rattle.crsm_base.specs.Messages.{datagram_bytes}
 use Rattle.crsm_spec.specs.Draft.{Draft}
 use Rattle.crsm_spec.specs.Node.{Turn, outputs_from}
 use Rattle.crsm_spec.specs.Replica.{Replica}
-use Rattle.crsm_spec_process.specs.Lives.{Group, kept_turns}
+use Rattle.crsm_spec_process.specs.Lives.{Group, HaveFates, kept_turns}
 use Rattle.crsm_spec_process.specs.Turns.{gone, not_gone, replica_after}
 use Rattle.crsm_port.specs.Meaning.{Packet}
 use Rattle.crsm_shell.specs.Shell.{sends_in, sends_of}
 use Rattle.crsm_replica_io.specs.Outgoing.{Lacks, address_of, packet_for, packets_for, sent_packets}
-use Rattle.crsm_node.specs.Sent.{AreAddressed, HasAddress, HaveFates, fates_of, handed_out, packets_gone, packets_missing}
+use Rattle.crsm_node.specs.Sent.{AreAddressed, HasAddress, fates_of, handed_out, packets_gone, packets_missing, sends_from}
 use Rattle.crsm_node.proofs.Groups.{all_append}
 use Rattle.crsm_node.proofs.Turns.{kept_more, outputs_append, replica_append}
 
@@ -121,7 +121,7 @@ unfolding fates_of
 fates_more groups g = flat_map-append (λ (x : Group). x.fates) groups (g ∷ []) ∙ ap (λ (fs : List Bool). flat_map (λ (x : Group). x.fates) groups ++ fs) (append-nil g.fates)
 
 -- groups with fates for what each hands out have as many as they hand out together
-pub fates_fit : (r : Replica) (groups : List Group) → HaveFates r groups → length (fates_of groups) ≡ length (handed_out r groups)
+pub fates_fit : (r : Replica) (groups : List Group) → HaveFates sends_from r groups → length (fates_of groups) ≡ length (handed_out r groups)
 unfolding HaveFates fates_of handed_out kept_turns sends_of outputs_from
 fates_fit r [] h = refl
 fates_fit r (g ∷ groups) h =
@@ -134,7 +134,7 @@ fates_fit r (g ∷ groups) h =
     let first = h.0 in
     omega (arith, later, long, here, first)
 
-pub have_fates_more : (r : Replica) (groups : List Group) (g : Group) → HaveFates r groups → length g.fates ≡ length (sends_of (outputs_from (replica_after r (kept_turns groups)) g.turns)) → HaveFates r (groups ++ g ∷ [])
+pub have_fates_more : (r : Replica) (groups : List Group) (g : Group) → HaveFates sends_from r groups → length g.fates ≡ length (sends_of (outputs_from (replica_after r (kept_turns groups)) g.turns)) → HaveFates sends_from r (groups ++ g ∷ [])
 unfolding HaveFates kept_turns replica_after
 have_fates_more r [] g h is = (is, tt)
 have_fates_more r (x ∷ groups) g h is = (
@@ -143,7 +143,7 @@ have_fates_more r (x ∷ groups) g h is = (
       (is ∙ ap (λ (q : Replica). length (sends_of (outputs_from q g.turns))) (replica_append r x.turns (flat_map (λ (k : Group). k.turns) groups))),
 )
 
-module _ (peers : List ℕ) (r : Replica) (groups : List Group) (have : HaveFates r groups) (ts : List (Turn × ℕ)) (missing : ℕ) (out : List Packet)
+module _ (peers : List ℕ) (r : Replica) (groups : List Group) (have : HaveFates sends_from r groups) (ts : List (Turn × ℕ)) (missing : ℕ) (out : List Packet)
     (f : AreFates peers (sends_of (outputs_from (replica_after r (kept_turns groups)) ts)) missing out) where
   abbrev sends : List Send
   sends = sends_of (outputs_from (replica_after r (kept_turns groups)) ts)

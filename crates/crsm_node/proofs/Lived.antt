@@ -6,7 +6,7 @@ use Rattle.crsm_disk.specs.Meaning.{LeavesOnly, Meaning, Only}
 use Rattle.crsm_io.specs.Streams.{Puts, PutsPrefix}
 use Rattle.crsm_ledger.specs.Recovered.{AreKept}
 use Rattle.crsm_spec_process.specs.Groups.{AreGroups}
-use Rattle.crsm_spec_process.specs.Lives.{Group, Life, kept_turns}
+use Rattle.crsm_spec_process.specs.Lives.{Group, HaveFates, Life, kept_turns}
 use Rattle.crsm_log.specs.Claim.{Claims, IsClaimedOrBefore}
 use Rattle.crsm_log.specs.Format.{bodies_in, bodies_of, found, reading}
 use Rattle.crsm_text_sheet.specs.declared.line.SheetLine.{SheetLine}
@@ -30,7 +30,7 @@ use Rattle.crsm_node.specs.Received.{GivesAll, Passes, datagrams_in}
 use Rattle.crsm_node.specs.Devices.{Node}
 use Rattle.crsm_node.specs.Order.{peers_in}
 use Rattle.crsm_node.specs.Running.{Devices, EndsLife, IsLeftAtStart, IsLeftInLife, KeepsLife, RunsLife, WritesLife, booted, end_of, opening_text, unlent_disk, unlent_port}
-use Rattle.crsm_node.specs.Sent.{AreAddressed, HaveFates, fates_of, handed_out, packets_gone, packets_missing, steps_by_group}
+use Rattle.crsm_node.specs.Sent.{AreAddressed, fates_of, handed_out, packets_gone, packets_missing, sends_from, steps_by_group}
 use Rattle.crsm_node.specs.Serving.{Carries, Ends, IsLeftAtEnd, Keeps, StopsAt, Takes, Writes, maybe_kept, turns_by_group, turns_text, with_lost}
 use Rattle.crsm_node.specs.declared.errors.NodeEnd.{NodeEnd}
 use Rattle.crsm_node.specs.declared.errors.NodeError.{NodeError}
@@ -173,7 +173,7 @@ carries_unlent peers r w ts groups a b h = record { traffic = h.traffic; empties
 pub record Lived (order : NodeOrder) (found_log : Log) (groups : List Group) (lost : List (Turn × ℕ)) (before after : Option Readings) (a b : PortMeaning) (o p : Meaning) (result : Result (Unit {0}) NodeError) : Type 0 where
   pub most : length (kept_turns groups ++ lost) ≤ order.turns
   pub are_groups : AreGroups (with_lost (turns_by_group groups) lost)
-  pub fates : HaveFates (booted order found_log) groups
+  pub fates : HaveFates sends_from (booted order found_log) groups
   pub addressed : AreAddressed (peers_in order) (booted order found_log) groups
   pub takes : Takes (booted order found_log) unwatched (kept_turns groups ++ lost) before after
   pub carries : Carries (peers_in order) (booted order found_log) unwatched (kept_turns groups ++ lost) groups a b

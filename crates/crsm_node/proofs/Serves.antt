@@ -8,7 +8,7 @@ use Rattle.crsm_disk.specs.Meaning.{Meaning as DiskMeaning, Only, Same}
 use Rattle.crsm_port_faults.specs.Counts.{Rose}
 use Rattle.crsm_io.specs.Streams.{Puts, PutsPrefix}
 use Rattle.crsm_spec_process.specs.Groups.{AreGroups, IsClosed, IsDatagram, IsGroup}
-use Rattle.crsm_spec_process.specs.Lives.{Group, kept_turns}
+use Rattle.crsm_spec_process.specs.Lives.{Group, HaveFates, kept_turns}
 use Rattle.crsm_log.specs.Log.{Goes}
 use Rattle.crsm_port.specs.Meaning.{Meaning as PortMeaning, Traffic}
 use Rattle.crsm_spec.specs.Draft.{Draft}
@@ -28,7 +28,7 @@ use Rattle.crsm_shell.specs.Words.{disk_of, has_failed, peers_of}
 use Rattle.crsm_node.specs.Devices.{Node, node_of}
 use Rattle.crsm_node.specs.Kept.{HasBehind, HasLogOf, IsLeftOf, PutInTurn, bodies_in_log}
 use Rattle.crsm_node.specs.Received.{BothTell, GivesAll, Passes, datagrams_in}
-use Rattle.crsm_node.specs.Sent.{HaveFates, fates_of, handed_out, packets_gone, packets_missing, steps_by_group}
+use Rattle.crsm_node.specs.Sent.{fates_of, handed_out, packets_gone, packets_missing, steps_by_group}
 use Rattle.crsm_node.specs.Serving.{Carries, MayGoOn, Serves, Takes, turns_by_group, turns_text, with_lost}
 use Rattle.crsm_node.specs.Steps.{FailsToReceive, FailsToTake, IsIdle, KeepsGroup, KeepsSteps, TakesTurn, Took, turn_text}
 use Rattle.crsm_node.specs.declared.errors.NodeError.{NodeError}

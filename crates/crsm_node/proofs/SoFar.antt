@@ -7,7 +7,7 @@ use Rattle.std.specs.List.{AllByRecursion, flat_map}
 use Rattle.crsm_clock.specs.Readings.{Gives, Readings}
 use Rattle.crsm_disk.specs.Meaning.{LeavesOnly, Meaning as DiskMeaning, Only}
 use Rattle.crsm_io.specs.Streams.{Puts, PutsPrefix}
-use Rattle.crsm_spec_process.specs.Lives.{Group, kept_turns}
+use Rattle.crsm_spec_process.specs.Lives.{Group, HaveFates, kept_turns}
 use Rattle.crsm_log.specs.Format.{bodies_of}
 use Rattle.crsm_log.specs.Log.{Goes}
 use Rattle.crsm_port.specs.Meaning.{Framing, Meaning as PortMeaning, Packet}
@@ -24,7 +24,7 @@ use Rattle.crsm_shell.specs.Flushing.{Adds, IsFull, IsLeft}
 use Rattle.crsm_shell.specs.Shell.{group_body, sends_of}
 use Rattle.crsm_node.specs.Kept.{HasBehind, HasLogOf, IsLeftOf, PutInTurn, bodies_in_log, body_in_log}
 use Rattle.crsm_node.specs.Received.{BothTell, GivesAll, Passes, datagram_in, datagrams_in, readings_of}
-use Rattle.crsm_node.specs.Sent.{HaveFates, packets_gone, packets_missing}
+use Rattle.crsm_node.specs.Sent.{packets_gone, packets_missing, sends_from}
 use Rattle.crsm_node.specs.Serving.{Carries, Takes, turns_by_group, turns_text}
 use Rattle.crsm_node.specs.Steps.{TakesOff}
 use Rattle.crsm_node.proofs.Disks.{has_more, left_more, put_more}
@@ -144,7 +144,7 @@ disk_more r groups g a b c on goes adds leaves fits logged durable =
           (left_more a b c bodies body (on.has honest) (on.any_moment honest) (leaves (trusts honest)));
     }
 
-pub carries_group : (peers : List ℕ) (r : Replica) (w : Watch) (ts : List (Turn × ℕ)) (groups : List Group) (us : List (Turn × ℕ)) (a b c : PortMeaning) → (have : HaveFates r groups) →
+pub carries_group : (peers : List ℕ) (r : Replica) (w : Watch) (ts : List (Turn × ℕ)) (groups : List Group) (us : List (Turn × ℕ)) (a b c : PortMeaning) → (have : HaveFates sends_from r groups) →
     (f : GoesOut (packets_for peers (sends_of (outputs_from (replica_after r (kept_turns groups)) us))) b c) → c.framing ≡ b.framing → c.borrowed_as ≡ b.borrowed_as → c.empties ≡ b.empties → c.too_long ≡ b.too_long → c.faults ≡ b.faults →
     (k : AreFates peers (sends_of (outputs_from (replica_after r (kept_turns groups)) us)) f.missing f.out) →
     Carries peers r w ts groups a b → Carries peers r w ts (with_group peers r groups have us f.missing f.out k) a c

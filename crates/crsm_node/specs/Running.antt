@@ -6,7 +6,7 @@ use Rattle.crsm_spec.specs.Log.{Log}
 use Rattle.crsm_spec.specs.Replica.{Replica}
 use Rattle.crsm_spec.specs.Step.{boot}
 use Rattle.crsm_spec_process.specs.Groups.{AreGroups}
-use Rattle.crsm_spec_process.specs.Lives.{Life, kept_turns}
+use Rattle.crsm_spec_process.specs.Lives.{HaveFates, Life, kept_turns}
 use Rattle.crsm_clock.specs.Readings.{Readings}
 use Rattle.crsm_io.specs.Streams.{Puts, PutsPrefix}
 use Rattle.crsm_text_sheet.specs.Sheets.{sheet_of, sheet_text}
@@ -27,7 +27,7 @@ use Rattle.crsm_node.specs.Devices.{node_of}
 use Rattle.crsm_node.specs.Errors.{serve_end}
 use Rattle.crsm_node.specs.Kept.{HasBehind, IsLeftOf, PutInTurn, bodies_in_log}
 use Rattle.crsm_node.specs.Order.{peers_in}
-use Rattle.crsm_node.specs.Sent.{AreAddressed, HaveFates}
+use Rattle.crsm_node.specs.Sent.{AreAddressed, sends_from}
 use Rattle.crsm_node.specs.Serving.{Carries, IsLeftAtEnd, Serves, StopsAt, Takes, maybe_kept, turns_by_group, with_lost}
 use Rattle.crsm_node.specs.declared.errors.NodeEnd.{NodeEnd}
 use Rattle.crsm_node.specs.declared.errors.NodeEnd.TheVariants as ends
@@ -174,7 +174,7 @@ pub record RunsLife (order : NodeOrder) (old new : Devices) (end : NodeEnd) : Ty
   pub found : IsTrue old.disk.honest → (reading old.disk.seen ≡ found bodies) × IsOpenTo order.cluster (cluster_of old.disk.seen)
   pub most : length (kept_turns life.groups ++ life.lost) ≤ order.turns
   pub are_groups : AreGroups (with_lost (turns_by_group life.groups) life.lost)
-  pub fates : HaveFates (booted order life.found) life.groups
+  pub fates : HaveFates sends_from (booted order life.found) life.groups
   pub addressed : AreAddressed (peers_in order) (booted order life.found) life.groups
   pub takes : Takes (booted order life.found) unwatched (kept_turns life.groups ++ life.lost) old.clock new.clock
   pub carries : Carries (peers_in order) (booted order life.found) unwatched (kept_turns life.groups ++ life.lost) life.groups old.port new.port

@@ -1,5 +1,5 @@
 -- The datagrams of groups of turns, and which of them are sent.
-use Rattle.std.specs.Prelude.{◌≡◌, ℕ, Bool, List, [], ◌∷◌, length, IsSome}
+use Rattle.std.specs.Prelude.{ℕ, Bool, List, [], ◌∷◌, length, IsSome}
 use Rattle.std.specs.List.{AllByRecursion, flat_map}
 use Rattle.crsm_base.specs.declared.send.Send.{Send}
 use Rattle.crsm_spec.specs.Draft.{Draft}
@@ -16,9 +16,13 @@ unfoldable pub steps_by_group : Replica → List (List (Turn × ℕ)) → List (
 steps_by_group r [] = []
 steps_by_group r (turns ∷ groups) = outputs_from r turns ∷ steps_by_group (replica_after r turns) groups
 
+-- the output of turns, in order
+abbrev pub sends_from : Replica → List (Turn × ℕ) → List Send
+sends_from r turns = sends_of (outputs_from r turns)
+
 -- the output of the turns of groups, in order, and the fate of each
 unfoldable pub handed_out : Replica → List Group → List Send
-handed_out r groups = sends_of (outputs_from r (kept_turns groups))
+handed_out r groups = sends_from r (kept_turns groups)
 
 unfoldable pub fates_of : List Group → List Bool
 fates_of groups = flat_map (λ g. g.fates) groups
@@ -26,11 +30,6 @@ fates_of groups = flat_map (λ g. g.fates) groups
 -- its receiver has an address
 abbrev pub HasAddress : List ℕ → Send → Type 0
 HasAddress peers s = IsSome (address_of peers s.to)
-
--- each group has a fate for all its output
-unfoldable pub HaveFates : Replica → List Group → Type 0
-HaveFates r [] = Unit {0}
-HaveFates r (g ∷ groups) = (length g.fates ≡ length (sends_of (outputs_from r g.turns))) × HaveFates (replica_after r g.turns) groups
 
 -- the datagrams of groups that went out
 unfoldable pub packets_gone : List ℕ → Replica → List Group → List Packet

@@ -6,7 +6,7 @@ use Rattle.crsm_base.specs.Records.{FitsRec}
 use Rattle.crsm_spec.specs.Node.{Turn, outputs_from}
 use Rattle.crsm_spec.specs.Replica.{Replica}
 use Rattle.crsm_spec_process.specs.Groups.{AreGroups}
-use Rattle.crsm_spec_process.specs.Lives.{Group, kept_turns}
+use Rattle.crsm_spec_process.specs.Lives.{Group, HaveFates, kept_turns}
 use Rattle.crsm_clock.specs.Readings.{Readings}
 use Rattle.crsm_io.specs.Streams.{Puts, PutsPrefix}
 use Rattle.crsm_text_sheet.specs.Sheets.{sheet_text, turn_line}
@@ -22,7 +22,7 @@ use Rattle.crsm_shell.specs.Shell.{group_body, records_of}
 use Rattle.crsm_node.specs.Devices.{Node}
 use Rattle.crsm_node.specs.Kept.{HasBehind, HasBehindOrMore, HasLogOf, IsLeftOf, PutInTurn, bodies_in_log}
 use Rattle.crsm_node.specs.Received.{BothTell, GivesAll, Passes, datagrams_in, readings_of}
-use Rattle.crsm_node.specs.Sent.{AreAddressed, HaveFates, packets_gone, packets_missing}
+use Rattle.crsm_node.specs.Sent.{AreAddressed, packets_gone, packets_missing, sends_from}
 use Rattle.crsm_node.specs.declared.errors.NodeError.{NodeError}
 use Rattle.crsm_node.specs.declared.errors.NodeError.TheVariants.{PortFault, DiskFault, LogFull, WriteFault, Failed, NoMemory}
 
@@ -125,7 +125,7 @@ pub record Serves (r : Replica) (w : Watch) (turns : ℕ) (old new : Node) (resu
   pub lost : List (Turn × ℕ)
   pub most : length (kept_turns groups ++ lost) ≤ turns
   pub are_groups : AreGroups (with_lost (turns_by_group groups) lost)
-  pub fates : HaveFates r groups
+  pub fates : HaveFates sends_from r groups
   pub addressed : AreAddressed old.peers r groups
   pub takes : Takes r w (kept_turns groups ++ lost) old.clock new.clock
   pub carries : Carries old.peers r w (kept_turns groups ++ lost) groups old.port new.port
