@@ -9,13 +9,10 @@ use Rattle.crsm_io.specs.Streams.{Puts, PutsPrefix}
 use Rattle.crsm_text_sheet.specs.declared.line.SheetLine.{SheetLine}
 use Rattle.crsm_text_sheet.specs.Grammar.{sheet_line_text}
 use Rattle.crsm_text_sheet.specs.Sheets.{entry_line, sheet_of, sheet_text}
-use Rattle.crsm_node.specs.Running.{opening_text}
+use Rattle.crsm_node.specs.Running.{entries_text, opening_text}
 use Rattle.crsm_node.proofs.SoFar.{puts_then}
 
--- the text of the lines of these bodies, and of the lines after them
-abbrev pub entries_text : List (List ℕ) → ℕ → List ℕ
-entries_text bodies i = sheet_text (map entry_line (take i bodies))
-
+-- the lines after those of so many bodies
 abbrev rest_text : List (List ℕ) → ℕ → List ℕ
 rest_text bodies i = sheet_text (map entry_line (drop i bodies) ++ SheetLine.Open ∷ [])
 
@@ -39,6 +36,13 @@ entries_more bodies i body is =
     ∙ ap sheet_text (map-append entry_line (take i bodies) (body ∷ [])) ∙ text_append (map entry_line (take i bodies)) (SheetLine.Entry body ∷ [])
     ∙ ap (λ (xs : List ℕ). entries_text bodies i ++ xs) (append-nil (line_of (SheetLine.Entry body)))
 
+-- lines of bodies and the one of the next
+pub entries_one_more : (bodies : List (List ℕ)) (first i : ℕ) (body lines more : List ℕ) → slice_get bodies i ≡ Some body → entries_text bodies i ≡ entries_text bodies first ++ lines →
+    more ≡ lines ++ line_of (SheetLine.Entry body) → entries_text bodies (i + 1) ≡ entries_text bodies first ++ more
+entries_one_more bodies first i body lines more is so_far then =
+    entries_more bodies i body is ∙ ap (λ (x : List ℕ). x ++ line_of (SheetLine.Entry body)) so_far ∙ append_assoc (entries_text bodies first) lines (line_of (SheetLine.Entry body))
+    ∙ ap (λ (x : List ℕ). entries_text bodies first ++ x) (sym then)
+
 take_whole : (bodies : List (List ℕ)) (i : ℕ) → i ≡ length bodies → take i bodies ≡ bodies
 take_whole bodies i is = ap (λ (n : ℕ). take n bodies) is ∙ take-length bodies
 
@@ -54,8 +58,8 @@ puts_none None = refl
 puts_none (Some had) = ap Some (sym (append-nil had))
 
 -- what is put goes on
-pub entry_put : (bodies : List (List ℕ)) (i : ℕ) (body : List ℕ) (a b c : Option (List ℕ)) → slice_get bodies i ≡ Some body → Puts a b (entries_text bodies i) → Puts b c (line_of (SheetLine.Entry body)) → Puts a c (entries_text bodies (i + 1))
-entry_put bodies i body a b c is one two = subst (λ (x : List ℕ). Puts a c x) (sym (entries_more bodies i body is)) (puts_then a b c (entries_text bodies i) (line_of (SheetLine.Entry body)) one two)
+pub entries_put : (bodies : List (List ℕ)) (i j : ℕ) (lines : List ℕ) (a b c : Option (List ℕ)) → entries_text bodies j ≡ entries_text bodies i ++ lines → Puts a b (entries_text bodies i) → Puts b c lines → Puts a c (entries_text bodies j)
+entries_put bodies i j lines a b c is one two = subst (λ (x : List ℕ). Puts a c x) (sym is) (puts_then a b c (entries_text bodies i) lines one two)
 
 pub opening_put : (bodies : List (List ℕ)) (i : ℕ) (a b c : Option (List ℕ)) → i ≡ length bodies → Puts a b (entries_text bodies i) → Puts b c (line_of SheetLine.Open) → Puts a c (opening_text bodies)
 opening_put bodies i a b c is one two = subst (λ (x : List ℕ). Puts a c x) (sym (all_entries bodies i is)) (puts_then a b c (entries_text bodies i) (line_of SheetLine.Open) one two)
@@ -64,12 +68,12 @@ opening_put bodies i a b c is one two = subst (λ (x : List ℕ). Puts a c x) (s
 pub stops_between : (bodies : List (List ℕ)) (i : ℕ) (a b : Option (List ℕ)) → Puts a b (entries_text bodies i) → PutsPrefix a b (opening_text bodies)
 stops_between bodies i a b one = record { prefix = entries_text bodies i; rest = rest_text bodies i; cut = text_cut bodies i; put = one }
 
-pub stops_in_entry : (bodies : List (List ℕ)) (i : ℕ) (body : List ℕ) (a b c : Option (List ℕ)) → slice_get bodies i ≡ Some body → Puts a b (entries_text bodies i) → PutsPrefix b c (line_of (SheetLine.Entry body)) → PutsPrefix a c (opening_text bodies)
-stops_in_entry bodies i body a b c is one two = record {
+pub stops_in_entries : (bodies : List (List ℕ)) (i j : ℕ) (lines : List ℕ) (a b c : Option (List ℕ)) → entries_text bodies j ≡ entries_text bodies i ++ lines → Puts a b (entries_text bodies i) → PutsPrefix b c lines → PutsPrefix a c (opening_text bodies)
+stops_in_entries bodies i j lines a b c is one two = record {
   prefix = entries_text bodies i ++ two.prefix;
-  rest = two.rest ++ rest_text bodies (i + 1);
-  cut = text_cut bodies (i + 1) ∙ ap (λ (x : List ℕ). x ++ rest_text bodies (i + 1)) (entries_more bodies i body is ∙ ap (λ (x : List ℕ). entries_text bodies i ++ x) two.cut ∙ sym (append_assoc (entries_text bodies i) two.prefix two.rest))
-      ∙ append_assoc (entries_text bodies i ++ two.prefix) two.rest (rest_text bodies (i + 1));
+  rest = two.rest ++ rest_text bodies j;
+  cut = text_cut bodies j ∙ ap (λ (x : List ℕ). x ++ rest_text bodies j) (is ∙ ap (λ (x : List ℕ). entries_text bodies i ++ x) two.cut ∙ sym (append_assoc (entries_text bodies i) two.prefix two.rest))
+      ∙ append_assoc (entries_text bodies i ++ two.prefix) two.rest (rest_text bodies j);
   put = puts_then a b c (entries_text bodies i) two.prefix one two.put;
 }
 

@@ -1,5 +1,5 @@
 -- The effects of a node from its start to its end.
-use Rattle.std.specs.Prelude.{◌≡◌, ◌≢◌, ◌⊎◌, ℕ, ◌+◌, ◌<◌, ◌≤◌, List, [], ◌∷◌, ◌++◌, length, true, IsTrue, Option, Some, None, Result, Ok, Err}
+use Rattle.std.specs.Prelude.{◌≡◌, ◌≢◌, ◌⊎◌, ℕ, ◌+◌, ◌<◌, ◌≤◌, List, [], ◌∷◌, ◌++◌, length, map, take, true, IsTrue, Option, Some, None, Result, Ok, Err}
 use Rattle.crsm_base.specs.declared.limits.TheConstants.{MAX_LOG_BYTES}
 use Rattle.crsm_port_faults.specs.Counts.{Rose}
 use Rattle.crsm_spec.specs.Log.{Log}
@@ -9,7 +9,7 @@ use Rattle.crsm_spec_process.specs.Groups.{AreGroups}
 use Rattle.crsm_spec_process.specs.Lives.{HaveFates, Life, kept_turns}
 use Rattle.crsm_clock.specs.Readings.{Readings}
 use Rattle.crsm_io.specs.Streams.{Puts, PutsPrefix}
-use Rattle.crsm_text_sheet.specs.Sheets.{sheet_of, sheet_text}
+use Rattle.crsm_text_sheet.specs.Sheets.{entry_line, sheet_of, sheet_text}
 use Rattle.crsm_disk.specs.Meaning.{LeavesOnly, Meaning as DiskMeaning}
 use Rattle.crsm_ledger.specs.Recovered.{AreKept}
 use Rattle.crsm_log.specs.Claim.{IsOpenTo, claimed}
@@ -49,6 +49,10 @@ unlent_disk m = record m { borrowed_as = None }
 
 abbrev pub unlent_port : PortMeaning → PortMeaning
 unlent_port m = record m { borrowed_as = None }
+
+-- the lines of so many of these bodies, from the first on
+abbrev pub entries_text : List (List ℕ) → ℕ → List ℕ
+entries_text bodies count = sheet_text (map entry_line (take count bodies))
 
 -- the first lines of a sheet
 abbrev pub opening_text : List (List ℕ) → List ℕ

@@ -31,7 +31,9 @@ pub fn push_in(out: &mut Bytes, reading: u64, address: u64, bytes: &[u8]) -> Res
     out.push(b'\n')
 }
 
-fn push_entry(out: &mut Bytes, bytes: &[u8]) -> Result<(), NoMemory>
+/// Appends the line of a log body that the node found. `NoMemory` if memory runs out; a prefix of the line may then have
+/// been appended.
+pub fn push_entry(out: &mut Bytes, bytes: &[u8]) -> Result<(), NoMemory>
     ensures { OnOk result (out.new ≡ out.old ++ (sheet_line_text (SheetLine.Entry bytes.now) ++ 10 ∷ [])) }
 {
     out.append(b"entry ")?;
