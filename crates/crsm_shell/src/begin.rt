@@ -1,6 +1,7 @@
 //! The boot of a core on the bodies of a log.
 
 ghost use Rattle.std.specs.Prelude.{◌≡◌, ◌<◌, ◌≤◌, ℕ, [], length, IfOk, IfErr};
+ghost use Rattle.crsm_core.specs.Core.{CoreAwaits};
 ghost use Rattle.crsm_ledger.specs.Recovered.{AreKept};
 ghost use Rattle.crsm_ledger.specs.Ledger.{LedgerStands};
 ghost use Rattle.crsm_spec.specs.Clock.{u64_max};
@@ -57,18 +58,28 @@ pub(crate) fn begin_on(alloc: Global, peers: &[u64], ledger: Ledger) -> Result<B
     ensures refused { IfErr result (λ why. why ≡ BootError.NoMemory) }
 {
     let (peers, buffer) = room_for(alloc, peers)?;
-    let ledger = with_room(ledger)?;
-    let mut core = Core::new(ledger)?;
+    let mut core = core_on(alloc, ledger)?;
     let batch = core.begin()?;
     let mut body = Bytes::new(alloc);
     write_records(batch.records.as_slice(), &mut body)?;
     Ok(Begun {
-        core: in_a_place(alloc, core)?,
+        core,
         peers,
         buffer,
         body,
         lines: batch.lines,
     })
+}
+
+/// Returns the core of the ledger, which awaits its boot.
+fn core_on(alloc: Global, ledger: Ledger) -> Result<Box<Core>, BootError>
+    ensures awaits { IfOk result (λ core. (me n : ℕ) (log : Log) → IsLedgerOf ledger me n log → CoreAwaits core.value me n log) }
+    ensures room { IfOk result (λ _. (me n : ℕ) (log : Log) → IsLedgerOf ledger me n log → boots log < u64_max) }
+    ensures refused { IfErr result (λ why. why ≡ BootError.NoMemory) }
+{
+    let ledger = with_room(ledger)?;
+    let core = Core::new(ledger)?;
+    Ok(in_a_place(alloc, core)?)
 }
 
 /// Moves the core to the heap. `NoMemory` if memory runs out.

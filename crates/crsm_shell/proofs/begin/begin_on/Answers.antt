@@ -1,40 +1,33 @@
-use Rattle.std.proofs.Common.{◌≡◌, ℕ, List, [], ◌++◌, refl, sym, ◌∙◌, ap, subst}
+use Rattle.std.proofs.Common.{◌≡◌, ℕ, List, ◌++◌, refl, sym, ◌∙◌, ap, subst}
 use Rattle.std.proofs.lemmas.Result.{err_from_is_err_and}
 use Rattle.std.proofs.Math.Logic.{∥∥₁_elim, ∥∥₁_map}
 use Rattle.std.specs.List.{AllByRecursion}
 use Rattle.crsm_base.specs.declared.rec.Rec.{Rec}
 use Rattle.crsm_base.specs.Records.{FitsRec, body_bytes}
-use Rattle.crsm_core.specs.Core.{CoreAwaits, CoreStands}
-use Rattle.crsm_core.specs.declared.replica.Core.{Core}
-use Rattle.crsm_ledger.specs.declared.ledger.Ledger.{Ledger}
-use Rattle.crsm_spec.specs.Log.{Log}
-use Rattle.crsm_spec.specs.Step.{boot}
-use Rattle.crsm_shell.specs.Beginning.{IsLedgerOf}
 use Rattle.crsm_shell.proofs.Boots.{boot_lines}
 use Rattle.crsm_shell.proofs.Propositions.{records_prop}
 use Rattle.crsm_shell.proofs.begin.begin_on.Goals as goal
 
 pub begin-requires : goal.begin-requires
 begin-requires c = λ _.
-    ∥∥₁_map c.requires (λ one.
-    let i = subst (λ (l : Ledger). IsLedgerOf l one.me one.n one.log) (sym c.in_ok-ledger.ensures.same) one.is in
-    let awaits = c.in_ok-core.ensures one.me one.n one.log i.stands i.fits i.spelt i.number i.some in
-    record { me = one.me; n = one.n; log = one.log; awaits = awaits.waits; room = c.in_ok-ledger.ensures.room one.me one.n one.log one.is.stands })
+    ∥∥₁_map c.requires (λ one. record {
+      me = one.me;
+      n = one.n;
+      log = one.log;
+      awaits = (c.in_ok-core.ensures.awaits one.me one.n one.log one.is).waits;
+      room = c.in_ok-core.ensures.room one.me one.n one.log one.is;
+    })
 
 pub write_records-requires : goal.write_records-requires
 write_records-requires c =
     subst (AllByRecursion FitsRec) (sym c.as_slice.ensures) (∥∥₁_elim c.requires (records_prop c.in_ok-batch.batch.records) (λ one.
-    let i = subst (λ (l : Ledger). IsLedgerOf l one.me one.n one.log) (sym c.in_ok-ledger.ensures.same) one.is in
-    let awaits = c.in_ok-core.ensures one.me one.n one.log i.stands i.fits i.spelt i.number i.some in
-    (c.in_ok-batch.ensures.ruled one.me one.n one.log awaits (c.in_ok-ledger.ensures.room one.me one.n one.log one.is.stands)).0.records))
+    (c.in_ok-batch.ensures.ruled one.me one.n one.log (c.in_ok-core.ensures.awaits one.me one.n one.log one.is) (c.in_ok-core.ensures.room one.me one.n one.log one.is)).0.records))
 
 pub returns-clause-begins : goal.returns-clause-begins
 returns-clause-begins c me n log is =
-    let i = subst (λ (l : Ledger). IsLedgerOf l me n log) (sym c.in_ok-ledger.ensures.same) is in
-    let awaits = c.in_ok-core.ensures me n log i.stands i.fits i.spelt i.number i.some in
-    let a = c.in_ok-batch.ensures.ruled me n log awaits (c.in_ok-ledger.ensures.room me n log is.stands) in
+    let a = c.in_ok-batch.ensures.ruled me n log (c.in_ok-core.ensures.awaits me n log is) (c.in_ok-core.ensures.room me n log is) in
     record {
-      core = subst (λ (core : Core). CoreStands core (boot me n log).replica) (sym c.in_ok-in_a_place.ensures) a.1;
+      core = a.1;
       body = c.in_ok-write_records.ensures.behind ∙ ap (λ (b : List ℕ). b ++ body_bytes c.as_slice.result.now) c.new-body.ensures
           ∙ ap (λ (rs : List Rec). body_bytes rs) (c.as_slice.ensures ∙ a.0.made.records);
       lines = boot_lines me n log c.in_ok-batch.batch a.0.made;
