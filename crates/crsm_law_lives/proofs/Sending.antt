@@ -167,7 +167,7 @@ module _ (k n : ℕ) where
   groups_outs (g ∷ x ∷ gs) log r h =
       let s = replica_after r g.turns in
       group_then g (x ∷ gs) log r
-          (ap (λ z. own_outs k n (flat_map (group_events k) (x ∷ gs)) (up s.log s [] z)) (drop_all (length g.fates) (handed_by r g.turns) h.0) ∙ groups_outs (x ∷ gs) s.log s h.1)
+      (ap (λ z. own_outs k n (flat_map (group_events k) (x ∷ gs)) (up s.log s [] z)) (drop_all (length g.fates) (handed_by r g.turns) h.0) ∙ groups_outs (x ∷ gs) s.log s h.1)
 
   stop_outs : (ended : Bool) (p : Host) → own_outs k n (cond ended (Event.Stops k ∷ []) []) p ≡ []
   unfolding own_outs own_out
