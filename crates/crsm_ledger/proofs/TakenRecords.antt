@@ -2,7 +2,7 @@
 use Rattle.std.proofs.Common.{◌≡◌, ℕ, ◌<◌, ◌+◌, ◌-◌, ◌≤◌, List, [], ◌++◌, length, take, Option, None, Some, Result, Err, refl, sym, ap, ◌∙◌, subst, arith, length-append, append_assoc, drop}
 use Rattle.std.proofs.lemmas.List.{drop_at, take-append-le, take_all}
 use Rattle.std.specs.Prelude.{IfErr}
-use Rattle.crsm_base.specs.Spelling.{FitsDecision, FitsEntries, FitsEntry, ballot_bytes, decision_bytes, entries_bytes, members_bytes, spec_bytes, u64_bytes}
+use Rattle.crsm_base.specs.Spelling.{FitsBallot, FitsDecision, FitsEntries, FitsEntry, ballot_bytes, decision_bytes, entries_bytes, members_bytes, spec_bytes, u64_bytes}
 use Rattle.crsm_base.specs.Parser.{◌>>=◌}
 use Rattle.crsm_base.specs.Reading.{ballot_at, decision_at, entries_at, entry_at, u64_at}
 use Rattle.crsm_base.specs.Records.{FitsRec, rec_bytes}
@@ -62,6 +62,11 @@ decide_is bytes rest d e = ap (λ (r : Option (Decision × List ℕ)). r >>= λ 
 pub accept_is : (bytes mid text rest : List ℕ) (i : ℕ) (b : Ballot) (d : Decision) → u64_at bytes ≡ Some (i, mid) → ballot_at mid ≡ Some (b, text) → decision_at text ≡ Some (d, rest) → accept_at bytes ≡ Some (Rec.Accept i b d, rest)
 unfolding accept_at
 accept_is bytes mid text rest i b d number ballot decision = rw (number, ballot, decision) refl
+
+-- the ballot that was read behind a number
+pub ballot_fits : (bytes mid text : List ℕ) (i : ℕ) (b : Ballot) → IsBytes bytes → u64_at bytes ≡ Some (i, mid) → ballot_at mid ≡ Some (b, text) → FitsBallot b
+ballot_fits bytes mid text i b ok number ballot =
+    let n = u64_parses.takes bytes i mid ok number in (ballot_parses.takes mid b text (IsBytes-back (u64_bytes i) mid bytes n.1 ok) ballot).0
 
 -- the record that was read has an encoding
 pub rec_fits : (bytes rest : List ℕ) (rec : Rec) → IsBytes bytes → rec_at bytes ≡ Some (rec, rest) → FitsRec rec

@@ -2,7 +2,7 @@
 use Rattle.std.specs.Prelude.{◌≡◌, ℕ, ◌<◌, ◌≤◌, Bool, true, false, List, [], ◌∷◌, length, Option, Result, IfOk}
 use Rattle.std.specs.List.{AllByRecursion}
 use Rattle.crsm_base.specs.declared.NoMemory.{NoMemory}
-use Rattle.crsm_spec.specs.Types.{Ballot, Entry, Decision, Rec, Line}
+use Rattle.crsm_spec.specs.Types.{Ballot, Decision, Rec, Line}
 use Rattle.crsm_spec.specs.Lists.{numbers_below}
 use Rattle.crsm_spec.specs.Log.{Log, known, start, boots, live, suspended, has_entered, promised, accepted, logged_in, logged, executed}
 use Rattle.crsm_spec.specs.Fits.{fits}

@@ -1,4 +1,5 @@
 pub mod Executed
+pub mod Fields
 pub mod Pieces
 pub mod Recovered
 pub mod Sorted

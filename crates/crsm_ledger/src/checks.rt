@@ -49,11 +49,11 @@ impl Ledger {
     pub(crate) fn fits_prepare(&self, entry: &Entry) -> bool
         ensures { WhereFieldsStand self.now (λ me n log. result ≡ fits me n log (Rec.Prepare entry.now)) }
     {
-        let is_member = is_among(self.known.members.as_slice(), entry.stamp.origin);
+        let is_member = is_among(self.known.get().members.as_slice(), entry.stamp.origin);
         let is_newest = self.logged.is_newest(entry);
         self.is_live
             & !self.is_suspended
-            & (entry.epoch == self.known.epoch)
+            & (entry.epoch == self.known.get().epoch)
             & is_member
             & is_newest
     }
@@ -69,7 +69,7 @@ impl Ledger {
         ensures { WhereFieldsStand self.now (λ me n log. result ≡ fits me n log (Rec.Adopt place entries.now)) }
     {
         let is_place = place == self.history.len();
-        let are_known = all_up_to(entries, self.known.epoch);
+        let are_known = all_up_to(entries, self.known.get().epoch);
         let are_behind = stand_behind(self.history.last(), entries);
         (0 < self.boots) & is_place & are_known & are_behind & (!self.is_live | self.is_suspended)
     }
@@ -77,24 +77,24 @@ impl Ledger {
     pub(crate) fn fits_suspend(&self, epoch: u64) -> bool
         ensures { WhereFieldsStand self.now (λ me n log. result ≡ fits me n log (Rec.Suspend epoch)) }
     {
-        (0 < self.boots) & (epoch == self.known.epoch) & !self.is_suspended
+        (0 < self.boots) & (epoch == self.known.get().epoch) & !self.is_suspended
     }
 
     pub(crate) fn fits_promise(&self, instance: u64, ballot: Ballot) -> bool
         ensures { WhereFieldsStand self.now (λ me n log. result ≡ fits me n log (Rec.Promise instance ballot)) }
     {
-        let is_next = is_after(instance, self.known.epoch);
-        let is_above = ballot_precedes(self.promised, ballot);
+        let is_next = is_after(instance, self.known.get().epoch);
+        let is_above = ballot_precedes(self.promised.get(), ballot);
         (0 < self.boots) & is_next & is_above
     }
 
     pub(crate) fn fits_accept(&self, instance: u64, ballot: Ballot, decision: &Decision) -> bool
         ensures { WhereFieldsStand self.now (λ me n log. result ≡ fits me n log (Rec.Accept instance ballot decision.now)) }
     {
-        let is_next = is_after(instance, self.known.epoch);
-        let decides_next = is_after(decision.epoch, self.known.epoch);
-        let is_below_promise = ballot_precedes(ballot, self.promised);
-        let is_above_accepted = is_above(ballot, &self.accepted);
+        let is_next = is_after(instance, self.known.get().epoch);
+        let decides_next = is_after(decision.epoch, self.known.get().epoch);
+        let is_below_promise = ballot_precedes(ballot, self.promised.get());
+        let is_above_accepted = is_above(ballot, self.accepted.get());
         let has_base = decision.base_len <= self.history.len();
         (0 < self.boots) & is_next & decides_next & !is_below_promise & is_above_accepted & has_base
     }
@@ -103,15 +103,19 @@ impl Ledger {
         ensures { WhereFieldsStand self.now (λ me n log. result ≡ fits me n log (Rec.Decide decision.now)) }
     {
         let has_members = has_members(self.n, decision);
-        (0 < self.boots) & (self.known.epoch < decision.epoch) & has_members
+        (0 < self.boots) & (self.known.get().epoch < decision.epoch) & has_members
     }
 
     pub(crate) fn fits_enter(&self, epoch: u64) -> bool
         ensures { WhereFieldsStand self.now (λ me n log. result ≡ fits me n log (Rec.Enter epoch)) }
     {
-        let is_member = is_among(self.known.members.as_slice(), self.me);
+        let is_member = is_among(self.known.get().members.as_slice(), self.me);
         let is_start = self.history.len() == self.start;
-        (0 < self.boots) & (epoch == self.known.epoch) & is_member & is_start & !self.has_entered
+        (0 < self.boots)
+            & (epoch == self.known.get().epoch)
+            & is_member
+            & is_start
+            & !self.has_entered
     }
 }
 

@@ -5,9 +5,10 @@ ghost use Rattle.crsm_spec.specs.Types.{Ballot as BallotOnPaper, Decision as Dec
 ghost use Rattle.crsm_base.specs.declared.Rec.{Rec};
 ghost use Rattle.crsm_base.specs.declared.Stamp.{Stamp};
 ghost use Rattle.crsm_base.specs.Records.{FitsRec};
-ghost use Rattle.crsm_base.specs.Spelling.{FitsEntry, FitsEntries, FitsDecision};
+ghost use Rattle.crsm_base.specs.Spelling.{FitsBallot, FitsEntry, FitsEntries, FitsDecision};
 ghost use Rattle.crsm_ledger.specs.Ledger.{Follows};
 
+use crate::fields::{AcceptedVote, KnownDecision, PromisedBallot};
 use crate::ledger::{Ledger, NO_BALLOT};
 use crsm_base::{Ballot, Decision, Entries, Entry, NoMemory, Rec};
 
@@ -89,23 +90,28 @@ impl Ledger {
     }
 
     pub(crate) fn follow_promise(&mut self, ballot: Ballot)
+        requires { FitsBallot ballot }
         ensures kept { (instance : ℕ) → Follows self.old (Rec.Promise instance ballot) self.new }
         ensures accepted { self.new.accepted ≡ self.old.accepted }
         ensures known { self.new.known ≡ self.old.known }
         ensures mark { self.new.is_spent ≡ self.old.is_spent }
     {
-        self.promised = ballot;
+        self.promised = PromisedBallot { ballot };
     }
 
     pub(crate) fn follow_accept(&mut self, ballot: Ballot, decision: Decision)
+        requires ballot { FitsBallot ballot }
+        requires decision { FitsDecision decision }
         ensures kept { (instance : ℕ) → Follows self.old (Rec.Accept instance ballot decision) self.new }
         ensures anew { (a : Option (BallotOnPaper × DecisionOnPaper)) (instance : ℕ) → Follows (record self.old { accepted = a }) (Rec.Accept instance ballot decision) self.new }
         ensures accepted { self.new.accepted ≡ Some (ballot, decision) }
         ensures known { self.new.known ≡ self.old.known }
         ensures mark { self.new.is_spent ≡ self.old.is_spent }
     {
-        self.promised = ballot;
-        self.accepted = Some((ballot, decision));
+        self.promised = PromisedBallot { ballot };
+        self.accepted = AcceptedVote {
+            vote: Some((ballot, decision)),
+        };
     }
 
     pub(crate) fn follow_decide(&mut self, decision: Decision)
@@ -118,12 +124,12 @@ impl Ledger {
     {
         self.start = decision.base_len + decision.tail.as_slice().len() as u64;
         self.history.begin_epoch(decision.epoch);
-        self.known = decision;
+        self.known = KnownDecision { decision };
         self.is_live = false;
         self.is_suspended = false;
         self.has_entered = false;
-        self.promised = NO_BALLOT;
-        self.accepted = None;
+        self.promised = PromisedBallot { ballot: NO_BALLOT };
+        self.accepted = AcceptedVote { vote: None };
         self.logged.clear();
     }
 

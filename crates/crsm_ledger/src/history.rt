@@ -4,13 +4,14 @@ ghost use Rattle.std.specs.Prelude.{◌≡◌, ◌<◌, ◌^◌, ℕ, [], ◌∷
 ghost use Rattle.std.specs.List.{AllByRecursion};
 ghost use Rattle.std.specs.Option.{option_copied, option_map};
 ghost use Rattle.crsm_base.specs.declared.Entry.{Entry};
-ghost use Rattle.crsm_base.specs.Spelling.{FitsEntry, entry_bytes};
+ghost use Rattle.crsm_base.specs.Spelling.{FitsEntry, FitsOption, FitsStamp, entry_bytes};
 ghost use Rattle.crsm_base.specs.Store.{apply};
 ghost use Rattle.crsm_spec.specs.Lines.{exec_line, exec_lines};
 ghost use Rattle.crsm_ledger.specs.Executed.{HistoryStands, position_of, last_stamp_in};
 ghost use Rattle.crsm_ledger.specs.Pieces.{IsSpelling};
 ghost use Rattle.crsm_ledger.specs.Sorted.{FitsKept, IsKept};
 
+use crate::fields::LastStamp;
 use crate::kept::Kept;
 use crate::spelt::Spelt;
 use crsm_base::{Answer, Bytes, Entry, Line, Lines, NoMemory, Stamp};
@@ -38,7 +39,7 @@ pub struct History {
     /// The number of the known epoch.
     epoch: u64,
     /// The stamp of the last executed entry of the known epoch.
-    last_stamp: Option<Stamp>,
+    last_stamp: LastStamp,
 }
 
 #[tactic(auto, using(crate::proofs::ExecutedLemmas::executed_rules))]
@@ -55,7 +56,7 @@ impl History {
             store: Store::new(alloc)?,
             last: None,
             epoch: 0,
-            last_stamp: None,
+            last_stamp: LastStamp { stamp: None },
         })
     }
 
@@ -77,9 +78,10 @@ impl History {
 
     /// Returns the stamp of the last executed entry of the known epoch, or `None` if there is none.
     pub fn last_stamp(&self) -> Option<Stamp>
-        ensures { (x : ℕ) (es : List Entry) → HistoryStands self.now x es → result ≡ last_stamp_in x es }
+        ensures value { (x : ℕ) (es : List Entry) → HistoryStands self.now x es → result ≡ last_stamp_in x es }
+        ensures fits { FitsOption FitsStamp result }
     {
-        self.last_stamp
+        self.last_stamp.get()
     }
 
     /// Begins the next epoch, in which no entry is executed yet.
@@ -87,7 +89,7 @@ impl History {
         ensures { (x : ℕ) (es : List Entry) → HistoryStands self.old x es → AllByRecursion (λ e. e.epoch < epoch) es → HistoryStands self.new epoch es }
     {
         self.epoch = epoch;
-        self.last_stamp = None;
+        self.last_stamp = LastStamp { stamp: None };
     }
 
     /// Returns the encoding of the executed entry with this index, or `None` if there are not that many.
@@ -177,7 +179,9 @@ impl History {
             stamp: entry.stamp,
         });
         if entry.epoch == self.epoch {
-            self.last_stamp = Some(entry.stamp);
+            self.last_stamp = LastStamp {
+                stamp: Some(entry.stamp),
+            };
         }
         Ok(answer)
     }

@@ -3,7 +3,8 @@
 ghost use Rattle.std.specs.Prelude.{◌≡◌, ℕ, ◌≤◌, ◌<◌, ◌^◌, true, false, List, [], ◌∷◌, length, slice_get, drop, Some, IfOk, IfSome};
 ghost use Rattle.std.specs.Option.{option_map, option_copied};
 ghost use Rattle.crsm_base.specs.declared.Rec.{Rec};
-ghost use Rattle.crsm_base.specs.Spelling.{entry_bytes, FitsEntry};
+ghost use Rattle.crsm_base.specs.Messages.{FitsVote};
+ghost use Rattle.crsm_base.specs.Spelling.{entry_bytes, FitsBallot, FitsDecision, FitsEntry, FitsOption, FitsStamp};
 ghost use Rattle.crsm_base.specs.Members.{IsMembers};
 ghost use Rattle.crsm_base.specs.Records.{FitsRec};
 ghost use Rattle.crsm_spec.specs.Fits.{fits, goes_on};
@@ -13,6 +14,7 @@ ghost use Rattle.crsm_spec.specs.Log.{boots, start, live, suspended, executed, l
 
 use crate::checks::stands_behind;
 use crate::error::LedgerError;
+use crate::fields::{AcceptedVote, KnownDecision, PromisedBallot};
 use crate::history::History;
 use crate::logged::Logged;
 use crsm_base::{
@@ -32,14 +34,14 @@ pub struct Ledger {
     pub(crate) founders: Members,
     pub(crate) is_spent: bool,
     pub(crate) boots: u64,
-    pub(crate) known: Decision,
+    pub(crate) known: KnownDecision,
     pub(crate) start: u64,
     pub(crate) is_live: bool,
     pub(crate) is_suspended: bool,
     /// Whether a boot of this replica has entered the known epoch.
     pub(crate) has_entered: bool,
-    pub(crate) promised: Ballot,
-    pub(crate) accepted: Option<(Ballot, Decision)>,
+    pub(crate) promised: PromisedBallot,
+    pub(crate) accepted: AcceptedVote,
     /// The logged entries of the known epoch.
     pub(crate) logged: Logged,
     pub(crate) history: History,
@@ -76,6 +78,13 @@ impl Ledger {
         let founders = members_of(alloc, numbers)?;
         let members = members_of(alloc, numbers)?;
         let history = History::new(alloc)?;
+        let decision = Decision {
+            epoch: 0,
+            spec: None,
+            members,
+            base_len: 0,
+            tail: Entries::new(alloc),
+        };
         Ok(Ledger {
             alloc,
             me,
@@ -83,19 +92,13 @@ impl Ledger {
             founders,
             is_spent: false,
             boots: 0,
-            known: Decision {
-                epoch: 0,
-                spec: None,
-                members,
-                base_len: 0,
-                tail: Entries::new(alloc),
-            },
+            known: KnownDecision { decision },
             start: 0,
             is_live: false,
             is_suspended: false,
             has_entered: false,
-            promised: NO_BALLOT,
-            accepted: None,
+            promised: PromisedBallot { ballot: NO_BALLOT },
+            accepted: AcceptedVote { vote: None },
             logged: Logged::new(alloc),
             history,
         })
@@ -110,9 +113,10 @@ impl Ledger {
 
     /// Returns the decision of the known epoch. Epoch 0 has all replicas that began the cluster, no base and no tail.
     pub fn known(&self) -> &Decision
-        ensures { WhereStands self.now (λ me n log. result.now ≡ known_decision n log) }
+        ensures value { WhereStands self.now (λ me n log. result.now ≡ known_decision n log) }
+        ensures fits { 1 ≤ result.now.epoch → FitsDecision result.now }
     {
-        &self.known
+        self.known.get()
     }
 
     /// Returns the number of entries that were executed when the known epoch began.
@@ -149,7 +153,8 @@ impl Ledger {
     /// Returns the executed entry with this index, or `None` if the index is not below `executed_len`. `NoMemory` if
     /// memory runs out.
     pub fn executed(&self, place: u64) -> Result<Option<Entry>, NoMemory>
-        ensures { WhereStands self.now (λ me n log. IfOk result (λ r. r ≡ slice_get (executed log) place)) }
+        ensures value { WhereStands self.now (λ me n log. IfOk result (λ r. r ≡ slice_get (executed log) place)) }
+        ensures fit { IfOk result (λ r. IfSome r FitsEntry) }
     {
         self.history.executed(place)
     }
@@ -158,7 +163,8 @@ impl Ledger {
     #[tactic(auto, unfolding(crate::specs::Ledger::executed_count))]
     pub fn executed_at(&self, place: u64) -> Result<Entry, NoMemory>
         requires { place < executed_count self.now }
-        ensures { WhereStands self.now (λ me n log. IfOk result (λ e. slice_get (executed log) place ≡ Some e)) }
+        ensures value { WhereStands self.now (λ me n log. IfOk result (λ e. slice_get (executed log) place ≡ Some e)) }
+        ensures fit { IfOk result FitsEntry }
     {
         let entry = self.history.entry(place)?;
         Ok(entry)
@@ -219,23 +225,26 @@ impl Ledger {
 
     /// Returns the stamp of the last executed entry of the known epoch, or `None` if there is none.
     pub fn last_stamp(&self) -> Option<Stamp>
-        ensures { WhereStands self.now (λ me n log. result ≡ last_stamp log) }
+        ensures value { WhereStands self.now (λ me n log. result ≡ last_stamp log) }
+        ensures fits { FitsOption FitsStamp result }
     {
         self.history.last_stamp()
     }
 
     /// Returns the ballot that is promised for the next decision, or round 0 of replica 0 if none is.
     pub fn promised(&self) -> Ballot
-        ensures { WhereStands self.now (λ me n log. result ≡ promised log) }
+        ensures value { WhereStands self.now (λ me n log. result ≡ promised log) }
+        ensures fits { FitsBallot result }
     {
-        self.promised
+        self.promised.get()
     }
 
     /// Returns the decision of the next epoch that was accepted last, with its ballot, or `None` if none was.
     pub fn accepted(&self) -> Option<(&Ballot, &Decision)>
-        ensures { WhereStands self.now (λ me n log. option_map (λ p. (p.0.now, p.1.now)) result ≡ accepted log) }
+        ensures value { WhereStands self.now (λ me n log. option_map (λ p. (p.0.now, p.1.now)) result ≡ accepted log) }
+        ensures fits { FitsOption FitsVote (option_map (λ p. (p.0.now, p.1.now)) result) }
     {
-        match &self.accepted {
+        match self.accepted.get() {
             Some((ballot, decision)) => Some((ballot, decision)),
             None => None,
         }
@@ -245,7 +254,7 @@ impl Ledger {
     pub fn counted(&self) -> &Members
         ensures { WhereStands self.now (λ me n log. result.now ≡ spec n log) }
     {
-        match &self.known.spec {
+        match &self.known.get().spec {
             Some(members) => members,
             None => &self.founders,
         }

@@ -4,6 +4,7 @@
 mod checks;
 mod entries;
 mod error;
+mod fields;
 mod follow;
 mod history;
 mod kept;

@@ -3,6 +3,7 @@
 ghost use Rattle.std.specs.Prelude.{◌≡◌, ℕ, ◌∷◌, [], IfOk};
 ghost use Rattle.crsm_base.specs.declared.Rec.{Rec};
 ghost use Rattle.crsm_base.specs.Records.{FitsRec};
+ghost use Rattle.crsm_base.specs.Spelling.{FitsBallot, FitsDecision};
 ghost use Rattle.crsm_ledger.specs.Ledger.{Keeps};
 
 use crate::ledger::Ledger;
@@ -65,6 +66,7 @@ impl Ledger {
     }
 
     fn keep_promise(&mut self, instance: u64, ballot: Ballot) -> Result<Lines, NoMemory>
+        requires { FitsBallot ballot }
         ensures kept { Keeps self.old (Rec.Promise instance ballot) result self.new }
         ensures mark { self.new.is_spent ≡ self.old.is_spent }
     {
@@ -85,6 +87,8 @@ impl Ledger {
         ballot: Ballot,
         decision: &Decision,
     ) -> Result<Lines, NoMemory>
+        requires ballot { FitsBallot ballot }
+        requires decision { FitsDecision decision.now }
         ensures kept { Keeps self.old (Rec.Accept instance ballot decision.now) result self.new }
         ensures mark { self.new.is_spent ≡ self.old.is_spent }
     {

@@ -4,7 +4,7 @@
 ghost use Rattle.std.specs.Prelude.{◌≡◌, ◌<◌, ◌≤◌, ◌+◌, ◌++◌, ℕ, None, Some, length, IfOk, IfSome, MatchOption, OnOk};
 ghost use Rattle.std.specs.List.{AllByRecursion};
 ghost use Rattle.crsm_base.specs.RecordReading.{accept_at, adopt_at, boot_at, commit_at, decide_rec_at, enter_at, prepare_rec_at, promise_at, rec_at, suspend_rec_at};
-ghost use Rattle.crsm_base.specs.Spelling.{FitsDecision, FitsEntry, decision_bytes, entries_bytes, members_bytes, spec_bytes};
+ghost use Rattle.crsm_base.specs.Spelling.{FitsBallot, FitsEntry, decision_bytes, entries_bytes, members_bytes, spec_bytes};
 ghost use Rattle.crsm_base.specs.declared.Rec.{Rec};
 ghost use Rattle.crsm_spec.specs.Types.{Ballot as BallotOnPaper, Decision as DecisionOnPaper};
 ghost use Rattle.crsm_ledger.specs.Ledger.{Follows};
@@ -15,7 +15,6 @@ use crsm_base::{Ballot, Decision, Members, NoMemory};
 use crsm_text_fields::{
     take_ballot, take_decision, take_entry, take_replica, take_stamp, take_u8, take_u64,
 };
-use std::mem;
 
 /// The bytes still to be read, with the encodings of the last accepted decision and of the tail of the known one, if
 /// they were read before: a log mostly repeats them.
@@ -122,13 +121,17 @@ impl Ledger {
     fn take_promise<'a>(&mut self, bytes: &'a [u8]) -> Option<&'a [u8]>
         ensures { MatchOption result (self.new ≡ self.old) (λ rest. IsTaken (promise_at bytes.now) rest.now self.old self.new) }
     {
-        let (instance, rest) = take_u64(bytes)?;
-        let (ballot, rest) = take_ballot(rest)?;
+        let Some((instance, rest)) = take_u64(bytes) else {
+            return None;
+        };
+        let Some((ballot, text)) = take_ballot(rest) else {
+            return None;
+        };
         if !self.fits_promise(instance, ballot) {
             return None;
         }
         self.follow_promise(ballot);
-        Some(rest)
+        Some(text)
     }
 
     #[tactic(auto, unfolding(crsm_base::specs::RecordReading::enter_at))]
@@ -190,11 +193,12 @@ impl Ledger {
         ballot: Ballot,
         bytes: &'a [u8],
     ) -> Option<&'a [u8]>
-        requires { IsAtHand accepted.now self.old.accepted }
+        requires ballot { FitsBallot ballot }
+        requires at_hand { IsAtHand accepted.now self.old.accepted }
         ensures { MatchOption result (self.new ≡ self.old) (λ rest. IsAgain accepted.now instance ballot bytes.now rest.now self.old self.new) }
     {
         let rest = behind(accepted, bytes)?;
-        let Some((_, decision)) = &self.accepted else {
+        let Some((_, decision)) = self.accepted.get() else {
             return None;
         };
         if !self.fits_accept(instance, ballot, decision) {
@@ -210,7 +214,7 @@ impl Ledger {
         ensures { MatchOption result (self.new ≡ self.old) (λ next. IsNext (decide_rec_at bytes.now) next.accepted.now next.tail.now next.rest.now self.old self.new) }
     {
         let rest = behind(accepted, bytes)?;
-        let Some((_, decision)) = &self.accepted else {
+        let Some((_, decision)) = self.accepted.get() else {
             return None;
         };
         if !self.fits_decide(decision) {
@@ -237,7 +241,7 @@ impl Ledger {
         let Some(rest) = behind(tail, text) else {
             return Ok(None);
         };
-        if !self.fits_adopt(place, self.known.tail.as_slice()) {
+        if !self.fits_adopt(place, self.known.get().tail.as_slice()) {
             return Ok(None);
         }
         self.follow_tail()?;
@@ -252,31 +256,31 @@ impl Ledger {
         ensures known { self.new.known ≡ self.old.known }
         ensures mark { self.new.is_spent ≡ self.old.is_spent }
     {
-        self.history.run_all(self.known.tail.as_slice())?;
+        self.history.run_all(self.known.get().tail.as_slice())?;
         Ok(())
     }
 
     /// Accepts the last accepted decision again, in this ballot.
     fn follow_again(&mut self, ballot: Ballot)
+        requires { FitsBallot ballot }
         ensures kept { (i : ℕ) (b : BallotOnPaper) (d : DecisionOnPaper) → self.old.accepted ≡ Some (b, d) → Follows self.old (Rec.Accept i ballot d) self.new }
         ensures accepted { (b : BallotOnPaper) (d : DecisionOnPaper) → self.old.accepted ≡ Some (b, d) → self.new.accepted ≡ Some (ballot, d) }
         ensures known { self.new.known ≡ self.old.known }
         ensures mark { self.new.is_spent ≡ self.old.is_spent }
     {
-        if let Some((_, decision)) = mem::replace(&mut self.accepted, None) {
+        if let Some((_, decision)) = self.accepted.take() {
             self.follow_accept(ballot, decision);
         }
     }
 
     /// Makes the last accepted decision the known one.
     fn follow_accepted(&mut self)
-        requires { IfSome self.old.accepted (λ a. FitsDecision a.1) }
         ensures kept { (b : BallotOnPaper) (d : DecisionOnPaper) → self.old.accepted ≡ Some (b, d) → Follows self.old (Rec.Decide d) self.new }
         ensures accepted { self.new.accepted ≡ None }
         ensures known { (b : BallotOnPaper) (d : DecisionOnPaper) → self.old.accepted ≡ Some (b, d) → self.new.known ≡ d }
         ensures mark { self.new.is_spent ≡ self.old.is_spent }
     {
-        if let Some((_, decision)) = mem::replace(&mut self.accepted, None) {
+        if let Some((_, decision)) = self.accepted.take() {
             self.follow_decide(decision);
         }
     }

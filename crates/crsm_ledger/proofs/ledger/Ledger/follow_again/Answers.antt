@@ -6,5 +6,8 @@ use Rattle.crsm_ledger.proofs.ledger.Ledger.follow_again.Goals as goal
 
 pub returns-in-Some-clause-kept : goal.returns-in-Some-clause-kept
 returns-in-Some-clause-kept c = λ i b d e.
-    let same : c.in-Some.decision ≡ d = ap (λ (p : Ballot × Decision). p.1) (some_is (c.in-Some.field-0-0, c.in-Some.decision) (b, d) (sym c.in-Some.is ∙ c.replace.ensures.value ∙ e)) in
+    let same : c.in-Some.decision ≡ d = ap (λ (p : Ballot × Decision). p.1) (some_is (c.in-Some.field-0-0, c.in-Some.decision) (b, d) (sym c.in-Some.is ∙ c.take.ensures.value ∙ e)) in
     subst (λ (x : Decision). Follows c.args.self.now (Rec.Accept i c.args.ballot x) c.follow_accept.new.self) same (c.follow_accept.ensures.anew c.args.self.now.accepted i)
+
+pub follow_accept-requires-clause-decision : goal.follow_accept-requires-clause-decision
+follow_accept-requires-clause-decision c = (rw c.in-Some.is at c.take.ensures.fits).1

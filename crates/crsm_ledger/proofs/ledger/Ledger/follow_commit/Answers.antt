@@ -1,6 +1,5 @@
-use Rattle.std.proofs.Common.{◌≡◌, ◌∙◌, ap, sym}
-use Rattle.crsm_spec.specs.Log.{known, executed, logged, unexecuted}
-use Rattle.crsm_spec.specs.Lists.{first_of}
+use Rattle.std.proofs.Common.{◌∙◌, sym}
+use Rattle.crsm_spec.specs.Log.{known, executed, logged}
 use Rattle.crsm_ledger.proofs.KeepLemmas.{commits, commit-some, next-is}
 use Rattle.crsm_ledger.proofs.ledger.Ledger.follow_commit.Goals as goal
 

@@ -1,5 +1,5 @@
-use Rattle.std.proofs.Common.{◌++◌, List, subst}
-use Rattle.crsm_spec.specs.Types.{Entry}
+use Rattle.std.proofs.Common.{◌++◌, List, ◌∙◌, ap, subst}
+use Rattle.crsm_spec.specs.Types.{Decision, Entry}
 use Rattle.crsm_spec.specs.Log.{known, executed}
 use Rattle.crsm_ledger.specs.Executed.{HistoryStands}
 use Rattle.crsm_ledger.proofs.KeepLemmas.{adopts}
@@ -9,4 +9,4 @@ pub returns-clause-kept : goal.returns-clause-kept
 returns-clause-kept c = λ place me n log s fit.
     let done = c.in_ok-run_all.ensures (known log) (executed log) s.executed in
     adopts s place c.args.self.now.known.tail c.run_all.new.self fit
-    (subst (λ (es : List Entry). HistoryStands c.run_all.new.self (known log) (executed log ++ es)) c.as_slice.ensures done)
+    (subst (λ (es : List Entry). HistoryStands c.run_all.new.self (known log) (executed log ++ es)) (c.as_slice.ensures ∙ ap (λ (d : Decision). d.tail) c.get.ensures.value) done)

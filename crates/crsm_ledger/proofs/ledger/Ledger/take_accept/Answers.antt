@@ -3,7 +3,7 @@ use Rattle.crsm_spec.specs.Types.{Rec}
 use Rattle.crsm_ledger.specs.declared.ledger.Ledger.{Ledger}
 use Rattle.crsm_ledger.specs.Ledger.{LedgerStands}
 use Rattle.crsm_ledger.specs.Taken.{IsAtHand, IsTail}
-use Rattle.crsm_ledger.proofs.TakenRecords.{accept_is, before_rest, rest_short, text_bytes}
+use Rattle.crsm_ledger.proofs.TakenRecords.{accept_is, ballot_fits, before_rest, rest_short, text_bytes}
 use Rattle.crsm_ledger.proofs.ledger.Ledger.take_accept.Goals as goal
 
 pub slice_bounds-accepted-count : goal.slice_bounds-accepted-count
@@ -13,6 +13,26 @@ slice_bounds-accepted-count c =
     let d = rw c.in-Some-2.is at c.in_ok-decision.ensures in
     rest_short c.in-Some-take_ballot.text.now c.in-Some-2.rest.now c.in-Some-2.decision
     (text_bytes c.args.bytes.now c.in-Some.rest.now c.in-Some-take_ballot.text.now c.in-Some.instance c.in-Some-take_ballot.ballot (λ i. omega (arith, c.type_inv.bytes i)) (sym i) (sym b)) (sym d)
+
+pub accept_again-requires-clause-ballot : goal.accept_again-requires-clause-ballot
+accept_again-requires-clause-ballot c =
+    let i = rw c.in-Some.is at c.take_u64.ensures in
+    let b = rw c.in-Some-take_ballot.is at c.take_ballot.ensures in
+    ballot_fits c.args.bytes.now c.in-Some.rest.now c.in-Some-take_ballot.text.now c.in-Some.instance c.in-Some-take_ballot.ballot (λ i. omega (arith, c.type_inv.bytes i)) (sym i) (sym b)
+
+pub follow_accept-requires-clause-ballot : goal.follow_accept-requires-clause-ballot
+follow_accept-requires-clause-ballot c =
+    let i = rw c.in-Some.is at c.take_u64.ensures in
+    let b = rw c.in-Some-take_ballot.is at c.take_ballot.ensures in
+    ballot_fits c.args.bytes.now c.in-Some.rest.now c.in-Some-take_ballot.text.now c.in-Some.instance c.in-Some-take_ballot.ballot (λ i. omega (arith, c.type_inv.bytes i)) (sym i) (sym b)
+
+pub follow_accept-requires-clause-decision : goal.follow_accept-requires-clause-decision
+follow_accept-requires-clause-decision c =
+    let i = rw c.in-Some.is at c.take_u64.ensures in
+    let b = rw c.in-Some-take_ballot.is at c.take_ballot.ensures in
+    let d = rw c.in-Some-2.is at c.in_ok-decision.ensures in
+    let ok = text_bytes c.args.bytes.now c.in-Some.rest.now c.in-Some-take_ballot.text.now c.in-Some.instance c.in-Some-take_ballot.ballot (λ i. omega (arith, c.type_inv.bytes i)) (sym i) (sym b) in
+    (before_rest c.in-Some-take_ballot.text.now c.in-Some-2.rest.now c.in-Some-2.decision ok (sym d)).0
 
 pub returns : goal.returns
 returns c =

@@ -1,6 +1,6 @@
-use Rattle.std.proofs.Common.{◌∙◌, ap, sym, List}
-use Rattle.std.specs.Prelude.{Some, Option}
-use Rattle.crsm_spec.specs.Types.{Entry, Stamp}
+use Rattle.std.proofs.Common.{◌∙◌, ap, sym}
+use Rattle.std.specs.Prelude.{Option}
+use Rattle.crsm_spec.specs.Types.{Stamp}
 use Rattle.crsm_spec.specs.Lists.{first_of}
 use Rattle.crsm_spec.specs.Log.{above}
 use Rattle.crsm_ledger.proofs.logged.Logged.release_next.Goals as goal
@@ -9,7 +9,7 @@ pub returns-in_ok-entry-in-Some-clause-next : goal.returns-in_ok-entry-in-Some-c
 returns-in_ok-entry-in-Some-clause-next c = λ x done es has all.
     let r = (rw c.in-Some.is at c.release.ensures.released) done es all in
     c.in_ok-entry-in-Some.ensures.value x done r.0 has r.2 ∙ sym r.1
-    ∙ ap (λ (last : Option Stamp). first_of (above last es)) (c.last_stamp.ensures x done has)
+    ∙ ap (λ (last : Option Stamp). first_of (above last es)) (c.last_stamp.ensures.value x done has)
 
 pub returns-in_ok-entry-in-Some-clause-released : goal.returns-in_ok-entry-in-Some-clause-released
 returns-in_ok-entry-in-Some-clause-released c = λ x done es has all.
@@ -22,4 +22,4 @@ returns-in_ok-entry-in-Some-clause-fit c = c.in_ok-entry-in-Some.ensures.fit (rw
 pub returns-in-None-clause-next : goal.returns-in-None-clause-next
 returns-in-None-clause-next c = λ x done es has all.
     let r = (rw c.in-None.is at c.release.ensures.released) done es all in
-    sym r.0 ∙ ap (λ (last : Option Stamp). first_of (above last es)) (c.last_stamp.ensures x done has)
+    sym r.0 ∙ ap (λ (last : Option Stamp). first_of (above last es)) (c.last_stamp.ensures.value x done has)
