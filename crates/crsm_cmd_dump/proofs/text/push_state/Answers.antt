@@ -11,9 +11,9 @@ use Rattle.crsm_cmd_dump.proofs.text.push_state.Goals as goal
 pub returns : goal.returns
 unfolding state_text
 returns c = λ me n log stands.
-    let epoch_is : c.known.result.now.epoch ≡ known log = ap (λ (d : Decision). d.epoch) (c.known.ensures me n log stands) ∙ known-epoch n log in
-    let members_are : c.known-2.result.now.members ≡ members n log = ap (λ (d : Decision). d.members) (c.known-2.ensures me n log stands) ∙ known-members n log in
-    let ballot_is = c.promised-promised.ensures me n log stands in
+    let epoch_is : c.known.result.now.epoch ≡ known log = ap (λ (d : Decision). d.epoch) (c.known.ensures.value me n log stands) ∙ known-epoch n log in
+    let members_are : c.known-2.result.now.members ≡ members n log = ap (λ (d : Decision). d.members) (c.known-2.ensures.value me n log stands) ∙ known-members n log in
+    let ballot_is = c.promised-promised.ensures.value me n log stands in
     let epoch : c.push_row-2.new.out ≡ c.push_row.new.out ++ row (codes "epoch") (known log ∷ []) =
     c.in_ok-push_row-2.ensures ∙ ap (λ (x : ℕ). c.push_row.new.out ++ row (codes "epoch") (x ∷ [])) epoch_is in
     let in_epoch : c.push_replicas.new.out ≡ c.push_row-2.new.out ++ replicas_row (codes "members") (members n log) =

@@ -7,5 +7,5 @@ use Rattle.crsm_replica_detector.proofs.timers.are_members_among.Goals as goal
 
 pub returns : goal.returns
 returns c me n log stands =
-    let known = ap (λ (d : Decision). d.members) (c.known.ensures me n log stands) ∙ members_known n log in
+    let known = ap (λ (d : Decision). d.members) (c.known.ensures.value me n log stands) ∙ members_known n log in
     c.are_among.ensures ∙ ap (λ (ms : List ℕ). list_all (has c.args.wanted.now) ms) (c.as_slice.ensures.value ∙ known)

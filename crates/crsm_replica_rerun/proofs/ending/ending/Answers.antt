@@ -9,6 +9,6 @@ pub returns : goal.returns
 unfolding final_line log_of
 returns c = λ r s.
     let state : c.state_of.result ≡ state_of (Site.Up r) = c.state_of.ensures r s in
-    let epoch : c.known.result.now.epoch ≡ known r.log = ap (λ (d : Decision). d.epoch) (c.known.ensures r.me r.n r.log s) ∙ known-epoch r.n r.log in
+    let epoch : c.known.result.now.epoch ≡ known r.log = ap (λ (d : Decision). d.epoch) (c.known.ensures.value r.me r.n r.log s) ∙ known-epoch r.n r.log in
     let count : c.executed_len.result ≡ length (executed r.log) = c.executed_len.ensures.value r.me r.n r.log s in
     cc

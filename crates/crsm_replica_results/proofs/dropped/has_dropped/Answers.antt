@@ -9,7 +9,7 @@ use Rattle.crsm_replica_results.proofs.dropped.has_dropped.Goals as goal
 pub returns-then-start-executed_len : goal.returns-then-start-executed_len
 unfolding is_dropped
 returns-then-start-executed_len c r s =
-    let now : c.known.result.now.epoch ≡ known r.log = ap (λ d. d.epoch) (c.known.ensures r.me r.n r.log s) ∙ known-epoch r.n r.log in
+    let now : c.known.result.now.epoch ≡ known r.log = ap (λ d. d.epoch) (c.known.ensures.value r.me r.n r.log s) ∙ known-epoch r.n r.log in
     let begun = c.start.ensures r.me r.n r.log s in
     let done = c.executed_len.ensures.value r.me r.n r.log s in
     let test : nat_le (start r.log) (length (executed r.log)) ≡ true = grind (arith, nat_tests, begun, done, c.if-start-executed_len.true) in

@@ -11,7 +11,7 @@ loop-before-init c me n log s = c.in_ok-store.ensures
 
 pub loop-before-preserved : goal.loop-before-preserved
 loop-before-preserved c me n log s =
-    let there = c.in_ok-entry.ensures me n log s in
+    let there = c.in_ok-entry.ensures.value me n log s in
     ap (λ r. r.0) c.in_ok-apply.ensures.done
     ∙ ap (λ rows. (apply rows c.in_ok-entry.entry.command).0) (c.loop-before.invariant me n log s)
     ∙ sym (after-push (take c.loop-before.before (executed log)) c.in_ok-entry.entry)

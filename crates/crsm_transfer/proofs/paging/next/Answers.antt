@@ -18,10 +18,10 @@ returns-then-size-room-clause-value c = λ me n log s.
 pub returns-in-Some-2-clause-value : goal.returns-in-Some-2-clause-value
 returns-in-Some-2-clause-value c = λ me n log s.
     let size : Some c.in-Some.size ≡ size_of_found (slice_get (executed log) c.args.place) = cc (c.in-Some.ensures me n log s) in
-    let entry : Some c.in-Some-2.entry ≡ slice_get (executed log) c.args.place = cc (c.in_ok-entry.ensures me n log s) in
+    let entry : Some c.in-Some-2.entry ≡ slice_get (executed log) c.args.place = cc (c.in_ok-entry.ensures.value me n log s) in
     next_found c.args.room c.in-Some.size (slice_get (executed log) c.args.place) c.in-Some-2.entry size (omega arith) entry
 
 pub returns-in-None-clause-value : goal.returns-in-None-clause-value
 returns-in-None-clause-value c = λ me n log s.
-    let entry : None ≡ slice_get (executed log) c.args.place = cc (c.in_ok-entry.ensures me n log s) in
+    let entry : None ≡ slice_get (executed log) c.args.place = cc (c.in_ok-entry.ensures.value me n log s) in
     next_gone c.args.room (slice_get (executed log) c.args.place) entry

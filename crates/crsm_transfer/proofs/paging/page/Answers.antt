@@ -13,5 +13,5 @@ returns-then-from-executed_len c = λ me n log s.
 pub returns : goal.returns
 returns c = λ me n log s.
     let long = c.executed_len.ensures.value me n log s in
-    let epoch : c.known.result.now.epoch ≡ known log = ap (λ (d : Decision). d.epoch) (c.known.ensures me n log s) ∙ known-epoch n log in
+    let epoch : c.known.result.now.epoch ≡ known log = ap (λ (d : Decision). d.epoch) (c.known.ensures.value me n log s) ∙ known-epoch n log in
     page_some log c.known.result.now.epoch c.args.from c.in_ok-entries.entries (omega (arith, long)) epoch (c.in_ok-entries.ensures me n log s)

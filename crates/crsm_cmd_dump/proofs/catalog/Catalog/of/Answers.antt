@@ -11,5 +11,5 @@ loop-place-init c = λ me n log stands. c.in_ok-catalog.ensures
 
 pub loop-place-preserved : goal.loop-place-preserved
 loop-place-preserved c = λ me n log stands.
-    let there : slice_get (executed log) c.loop-place.place ≡ Some c.in_ok-entry.entry = c.in_ok-entry.ensures me n log stands in
+    let there : slice_get (executed log) c.loop-place.place ≡ Some c.in_ok-entry.entry = c.in_ok-entry.ensures.value me n log stands in
     listed_more _ (executed log) c.loop-place.place c.in_ok-entry.entry there (c.in_ok-take.ensures _ (c.loop-place.invariant me n log stands))
