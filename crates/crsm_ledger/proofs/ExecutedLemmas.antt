@@ -1,9 +1,10 @@
 -- The history with one more executed entry.
 use Rattle.std.proofs.Common.{◌≡◌, ℕ, suc, zero, Bool, true, false, ◌<◌, List, [], ◌∷◌, ◌++◌, refl, ap, sym, ◌∙◌, arith, length, append_assoc, subst}
-use Rattle.std.specs.Prelude.{filter, slice_get, Option, None, Some, ◌==◌, ◌||◌, ◌&&◌, nat_lt, if◌then◌else◌}
+use Rattle.std.specs.Prelude.{filter, map, slice_get, Option, None, Some, ◌==◌, ◌||◌, ◌&&◌, nat_lt, if◌then◌else◌}
 use Rattle.std.specs.List.{AllByRecursion}
 use Rattle.std.specs.Option.{option_map, option_map_or}
 use Rattle.std.proofs.lemmas.Grind.{fold-append}
+use Rattle.std.proofs.lemmas.List.{map-append}
 use Rattle.std.proofs.lemmas.Bool.Decides.{nat_tests}
 use Rattle.crsm_base.specs.Order.{stamp_lt, entry_lt}
 use Rattle.crsm_base.specs.Spelling.{entry_bytes, FitsEntry}
@@ -15,9 +16,9 @@ use Rattle.crsm_spec.specs.Fits.{goes_on}
 use Rattle.crsm_spec.specs.Lines.{exec_line, exec_lines}
 use Rattle.crsm_ledger.specs.declared.history.History.{History}
 use Rattle.crsm_ledger.specs.declared.history.Position.{Position}
-use Rattle.crsm_ledger.specs.Executed.{HistoryStands, position_of, last_stamp_in, goes_on_behind}
+use Rattle.crsm_ledger.specs.Executed.{Grows, HistoryStands, Spells, position_of, last_stamp_in, goes_on_behind}
 use Rattle.crsm_ledger.specs.Pieces.{IsSpelling}
-use Rattle.crsm_fact_log.proofs.Lists.{all-push, map-push, filter-push, slice_get-map, length-map, last_or-push, append-none}
+use Rattle.crsm_fact_log.proofs.Lists.{all-append, all-push, map-push, filter-push, slice_get-map, length-map, last_or-push, append-none}
 
 pub last_of-push : {X : Type 0} (xs : List X) (x : X) → last_of (xs ++ x ∷ []) ≡ Some x
 unfolding last_of
@@ -67,8 +68,36 @@ exec_line-is h x es e me answer before is =
 pub length-spelt : (h : History) (x : ℕ) (es : List Entry) → HistoryStands h x es → length h.spelt ≡ length es
 length-spelt h x es has = ap length has.spelt ∙ length-map entry_bytes es
 
+-- what is encoded among the executed entries
+pub stands-spells : {h : History} {x : ℕ} {es : List Entry} → HistoryStands h x es → Spells h.spelt es
+stands-spells has = record { spelt = has.spelt; fit = has.fit }
+
+pub slice_get-spells : (encodings : List (List ℕ)) (es : List Entry) (i : ℕ) → Spells encodings es → slice_get encodings i ≡ option_map entry_bytes (slice_get es i)
+slice_get-spells encodings es i s = ap (λ spelt. slice_get spelt i) s.spelt ∙ slice_get-map entry_bytes es i
+
 pub slice_get-spelt : (h : History) (x : ℕ) (es : List Entry) (i : ℕ) → HistoryStands h x es → slice_get h.spelt i ≡ option_map entry_bytes (slice_get es i)
-slice_get-spelt h x es i has = ap (λ spelt. slice_get spelt i) has.spelt ∙ slice_get-map entry_bytes es i
+slice_get-spelt h x es i has = slice_get-spells h.spelt es i (stands-spells has)
+
+pub length-spells : (encodings : List (List ℕ)) (es : List Entry) → Spells encodings es → length encodings ≡ length es
+length-spells encodings es s = ap length s.spelt ∙ length-map entry_bytes es
+
+-- ---- what grows
+
+pub grows-none : (old new : History) → new.spelt ≡ old.spelt → new.epoch ≡ old.epoch → Grows old new
+grows-none old new same epoch = record { more = []; fit = tt; spelt = same ∙ sym (append-none old.spelt); epoch = epoch }
+
+pub grows-one : (old new : History) (e : Entry) → FitsEntry e → new.spelt ≡ old.spelt ++ entry_bytes e ∷ [] → new.epoch ≡ old.epoch → Grows old new
+grows-one old new e fits pushed epoch = record { more = e ∷ []; fit = (fits, tt); spelt = pushed; epoch = epoch }
+
+pub grows-trans : (a b c : History) → Grows a b → Grows b c → Grows a c
+grows-trans a b c first second = record {
+  more = first.more ++ second.more;
+  fit = all-append FitsEntry first.more second.more first.fit second.fit;
+  spelt = second.spelt ∙ ap (λ bytes. bytes ++ map entry_bytes second.more) first.spelt
+      ∙ append_assoc a.spelt (map entry_bytes first.more) (map entry_bytes second.more)
+      ∙ ap (λ bytes. a.spelt ++ bytes) (sym (map-append entry_bytes first.more second.more));
+  epoch = second.epoch ∙ first.epoch;
+}
 
 none_of_epoch : (x : ℕ) (es : List Entry) → AllByRecursion (λ e. e.epoch < x) es → filter (λ e. e.epoch == x) es ≡ []
 none_of_epoch x [] below = refl

@@ -1,5 +1,5 @@
 -- The condition of each kind of record, by the fields.
-use Rattle.std.proofs.Common.{◌≡◌, ℕ, Bool, true, false, ◌+◌, List, refl, length}
+use Rattle.std.proofs.Common.{◌≡◌, ℕ, Bool, true, false, ◌+◌, List, refl, sym, subst, ◌∙◌, length}
 use Rattle.std.specs.Prelude.{◌==◌, ◌&&◌, ◌||◌, not, nat_lt, nat_le, Option, unwrap_or}
 use Rattle.std.specs.List.{list_all}
 use Rattle.std.specs.Option.{option_map_or}
@@ -13,7 +13,10 @@ use Rattle.crsm_spec.specs.Log.{Log, known, start, members, boots, active, above
 use Rattle.crsm_spec.specs.Fits.{fits, booted, is_newest, can_be_members}
 use Rattle.crsm_ledger.specs.declared.ledger.Ledger.{Ledger}
 use Rattle.crsm_ledger.specs.Executed.{position_of, goes_on_behind}
+use Rattle.crsm_ledger.specs.Held.{CanBeLogged, HasNext}
 use Rattle.crsm_ledger.specs.Ledger.{FieldsStand}
+use Rattle.crsm_ledger.specs.Sorted.{AreKeptFor}
+use Rattle.crsm_ledger.specs.declared.kept.LoggedItem.{LoggedItem}
 use Rattle.crsm_ledger.proofs.ExecutedLemmas.{goes_on-position}
 use Rattle.crsm_fact_log.proofs.Known.{known-epoch, known-members}
 use Rattle.crsm_ledger.proofs.ReadLemmas.{me-is, n-is, boots-is, known-is, start-is, live-is, suspended-is, entered-is, promised-is, accepted-is}
@@ -63,3 +66,25 @@ unfolding fits booted
 fits-enter {me = me} {n = n} {log = log} s x =
     rw (boots-is s, known-is s, known-epoch n log, known-members n log, me-is s, start-is s, entered-is s)
     (entered_there x (known log) (λ k. has_entered k log) (nat_lt 0 (boots log)) (has (members n log) me) (length (executed log) == start log) ((Decides-eqb x (known log)).0))
+
+-- ---- what follows from a record that fits
+
+fifth : (a b c d e : Bool) → ((((a && b) && c) && d) && e) ≡ true → (c ≡ true) × (e ≡ true)
+fifth true true true true e is = (refl, is)
+fifth true true true false e is = cc
+fifth true true false d e is = cc
+fifth true false c d e is = cc
+fifth false b c d e is = cc
+
+third : (a b c : Bool) → ((a && b) && c) ≡ true → c ≡ true
+third true true c is = is
+third true false c is = cc
+third false b c is = cc
+
+pub can-log : (a b d newest : Bool) (epoch x : ℕ) (items : List LoggedItem) (e : Entry) → ((((a && b) && e.epoch == epoch) && d) && newest) ≡ true → epoch ≡ x → ((done es : List Entry) → AreKeptFor done items es → newest ≡ is_newest e es) → CanBeLogged x items e
+can-log a b d newest epoch x items e passes is newer =
+    let both : ((e.epoch == epoch) ≡ true) × (newest ≡ true) = fifth a b (e.epoch == epoch) d newest passes in
+    record { epoch = (Decides-eqb e.epoch epoch).0 both.0 ∙ is; newest = λ done es all. sym (newer done es all) ∙ both.1 }
+
+pub can-commit : (a b next : Bool) (last old : Option Stamp) (items : List LoggedItem) → ((a && b) && next) ≡ true → last ≡ old → (next ≡ true → HasNext last items) → HasNext old items
+can-commit a b next last old items passes same some = subst (λ (o : Option Stamp). HasNext o items) same (some (third a b next passes))

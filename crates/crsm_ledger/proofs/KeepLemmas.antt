@@ -12,11 +12,10 @@ use Rattle.crsm_spec.specs.Log.{Log, known, boots, active, with_entry, logged_in
 use Rattle.crsm_spec.specs.Fits.{fits, booted}
 use Rattle.crsm_spec.specs.Lines.{lines_of, exec_line, exec_lines}
 use Rattle.crsm_ledger.specs.declared.ledger.Ledger.{Ledger}
-use Rattle.crsm_ledger.specs.declared.history.History.{History}
+use Rattle.crsm_ledger.specs.declared.held.HeldEntries.{HeldEntries}
 use Rattle.crsm_ledger.specs.Executed.{HistoryStands, last_stamp_in}
+use Rattle.crsm_ledger.specs.Held.{Holds}
 use Rattle.crsm_ledger.specs.Ledger.{FieldsStand}
-use Rattle.crsm_ledger.specs.Sorted.{AreKeptFor}
-use Rattle.crsm_ledger.specs.declared.kept.LoggedItem.{LoggedItem}
 use Rattle.crsm_fact_log.proofs.Lists.{all_more}
 use Rattle.crsm_ledger.proofs.LoggedLemmas.{with_entry-all}
 use Rattle.crsm_ledger.proofs.ExecutedLemmas.{last_stamp-in}
@@ -160,24 +159,24 @@ lines-adopt {log = log} s place es = ap (λ (k : ℕ). exec_lines k (executed lo
 
 -- ---- fields
 
-pub decides : {me n : ℕ} {l : Ledger} {log : Log} (s : FieldsStand me n l log) (d known' : Decision) (start' : ℕ) (logged' : List LoggedItem) (h : History) → fits me n log (Rec.Decide d) ≡ true → known' ≡ d → start' ≡ d.base_len + length d.tail → logged' ≡ [] → HistoryStands h d.epoch (executed log) → FieldsStand me n (record l { known = known'; start = start'; is_live = false; is_suspended = false; has_entered = false; promised = no_ballot; accepted = None; logged = logged'; history = h }) (Rec.Decide d ∷ log)
-decides {me} {n} {l} {log} s d known' start' logged' h fit is start_is none begun =
-    rw (is, start_is) (says-decide s d h logged' (decide-later me n log d fit) begun none)
+pub decides : {me n : ℕ} {l : Ledger} {log : Log} (s : FieldsStand me n l log) (d known' : Decision) (start' : ℕ) (held : HeldEntries) → fits me n log (Rec.Decide d) ≡ true → known' ≡ d → start' ≡ d.base_len + length d.tail → Holds held.history held.logged d.epoch (executed log) [] → FieldsStand me n (record l { known = known'; start = start'; is_live = false; is_suspended = false; has_entered = false; promised = no_ballot; accepted = None; held = held }) (Rec.Decide d ∷ log)
+decides {me} {n} {l} {log} s d known' start' held fit is start_is begun =
+    rw (is, start_is) (says-decide s d held (decide-later me n log d fit) begun)
 
 pub all_earlier : {me n : ℕ} {l : Ledger} {log : Log} (s : FieldsStand me n l log) (d : Decision) → fits me n log (Rec.Decide d) ≡ true → AllByRecursion (λ e. e.epoch < d.epoch) (executed log)
 all_earlier {me} {n} {l} {log} s d fit =
     let later : known log < d.epoch = decide-later me n log d fit in
     all_more (λ e. e.epoch ≤ known log) (λ e. e.epoch < d.epoch) (λ e below. omega (arith, later, below)) (executed log) s.none_above.executed
 
-pub prepares : {me n : ℕ} {l : Ledger} {log : Log} (s : FieldsStand me n l log) (e : Entry) (logged' : List LoggedItem) → fits me n log (Rec.Prepare e) ≡ true → AreKeptFor (executed log) logged' (with_entry e (logged log)) → FieldsStand me n (record l { logged = logged' }) (Rec.Prepare e ∷ log)
-prepares {me} {n} {l} {log} s e logged' fit kept = says-prepare s e logged' (prepare-known me n log e fit) kept
+pub prepares : {me n : ℕ} {l : Ledger} {log : Log} (s : FieldsStand me n l log) (e : Entry) (held : HeldEntries) → fits me n log (Rec.Prepare e) ≡ true → Holds held.history held.logged (known log) (executed log) (with_entry e (logged log)) → FieldsStand me n (record l { held = held }) (Rec.Prepare e ∷ log)
+prepares {me} {n} {l} {log} s e held fit holds = says-prepare s e held (prepare-known me n log e fit) holds
 
-pub commits : {me n : ℕ} {l : Ledger} {log : Log} (s : FieldsStand me n l log) (t : Stamp) (e : Entry) (h : History) (logged' : List LoggedItem) → fits me n log (Rec.Commit t) ≡ true → first_of (unexecuted log) ≡ Some e → HistoryStands h (known log) (executed log ++ e ∷ []) → AreKeptFor (executed log ++ e ∷ []) logged' (logged log) → FieldsStand me n (record l { logged = logged'; history = h }) (Rec.Commit t ∷ log)
-commits {me} {n} {l} {log} s t e h logged' fit first done kept =
-    says-commit s t e h logged' first (commit-same me n log t e fit first) (unexecuted-epoch log e first) done kept
+pub commits : {me n : ℕ} {l : Ledger} {log : Log} (s : FieldsStand me n l log) (t : Stamp) (e : Entry) (held : HeldEntries) → fits me n log (Rec.Commit t) ≡ true → first_of (unexecuted log) ≡ Some e → Holds held.history held.logged (known log) (executed log ++ e ∷ []) (logged log) → FieldsStand me n (record l { held = held }) (Rec.Commit t ∷ log)
+commits {me} {n} {l} {log} s t e held fit first holds =
+    says-commit s t e held first (commit-same me n log t e fit first) (unexecuted-epoch log e first) holds
 
-pub adopts : {me n : ℕ} {l : Ledger} {log : Log} (s : FieldsStand me n l log) (place : ℕ) (es : List Entry) (h : History) → fits me n log (Rec.Adopt place es) ≡ true → HistoryStands h (known log) (executed log ++ es) → FieldsStand me n (record l { history = h }) (Rec.Adopt place es ∷ log)
-adopts {me} {n} {l} {log} s place es h fit done = says-adopt s place es h (adopt-known me n log place es fit) done
+pub adopts : {me n : ℕ} {l : Ledger} {log : Log} (s : FieldsStand me n l log) (place : ℕ) (es : List Entry) (held : HeldEntries) → fits me n log (Rec.Adopt place es) ≡ true → HistoryStands held.history (known log) (executed log ++ es) → held.logged ≡ l.held.logged → FieldsStand me n (record l { held = held }) (Rec.Adopt place es ∷ log)
+adopts {me} {n} {l} {log} s place es held fit done same = says-adopt s place es held (adopt-known me n log place es fit) done same
 
 pub commit-entry : (me n : ℕ) (log : Log) (t : Stamp) (e : Entry) → fits me n log (Rec.Commit t) ≡ true → first_of (unexecuted log) ≡ Some e → entry_of log t ≡ Some e
 commit-entry me n log t e fit first = committed log t e first (commit-same me n log t e fit first)

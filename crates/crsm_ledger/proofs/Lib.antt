@@ -1,4 +1,5 @@
 pub mod LoggedLemmas
+pub mod HeldLemmas
 pub mod PiecesLemmas
 pub mod ExecutedLemmas
 pub mod ReadLemmas

@@ -13,7 +13,7 @@ use Rattle.crsm_spec.specs.Fits.{is_newest}
 use Rattle.crsm_fact_log.proofs.Lists.{all_got, all_more, get_left, take-rest}
 use Rattle.crsm_ledger.specs.declared.kept.Kept.{Kept}
 use Rattle.crsm_ledger.specs.declared.kept.LoggedItem.{LoggedItem}
-use Rattle.crsm_ledger.specs.Sorted.{AreKeptFor, FitsKept, IsKept, IsKeptFor, IsLogged, IsNotBelow, IsReleased, IsSortedByStamp, marked}
+use Rattle.crsm_ledger.specs.Sorted.{AreKeptFor, FitsKept, IsKept, IsKeptFor, IsLogged, IsNotBelow, IsSortedByStamp, items_above, marked}
 
 -- ---- stamps
 
@@ -129,6 +129,19 @@ pub above-kept : (done : List Entry) (s : Stamp) (is : List LoggedItem) (es : Li
 unfolding above
 above-kept done s is es k all bound point = drop-kept done s is es k all bound point
 
+-- the items from a partition point on are those above the stamp
+pub from-point : (s : Stamp) (is : List LoggedItem) (k : ℕ) → k ≤ length is → UpTo s is k → drop k is ≡ items_above (Some s) is
+unfolding items_above
+from-point s [] zero bound point = refl
+from-point s [] (suc k) bound point = absurd (omega arith)
+from-point s (j ∷ is) zero bound point =
+    let less : stamp_lt s j.stamp ≡ true = not-false (stamp_lt s j.stamp) (point.1 0 j (omega arith) (omega arith)) in
+    rw less
+    (ap (λ rest. j ∷ rest) (from-point s is zero (omega arith) ((λ m d low high. absurd (omega arith)), (λ m d low high. point.1 (suc m) d (omega arith) (omega arith)))))
+from-point s (j ∷ is) (suc k) bound point =
+    let less : stamp_lt s j.stamp ≡ false = not-true (stamp_lt s j.stamp) (point.0 0 j (omega arith) (omega arith)) in
+    rw less (from-point s is k (omega arith) (later_point s j is k point))
+
 newest_of_later : (same earlier : Bool) (others : Bool) → earlier ≡ false → not (same || others) ≡ ((not same || earlier) && not others)
 newest_of_later true earlier others h = rw h
 newest_of_later false earlier others h = refl
@@ -235,23 +248,10 @@ get_end : (done : List Entry) (e : Entry) → slice_get (done ++ e ∷ []) (leng
 get_end [] e = refl
 get_end (f ∷ done) e = get_end done e
 
--- the item of the first entry above a stamp is marked as that of the entry that is executed next
-pub released : (last : Option Stamp) (is : List LoggedItem) (k place : ℕ) (i : LoggedItem) → ((done es : List Entry) → AreKeptFor done is es → drop k es ≡ above last es) → slice_get is k ≡ Some i → IsReleased last place (Some i.kept) is (set is k (marked i place))
-released last is k place i first at = λ done es all.
-    let there : (e : Entry) × (slice_get es k ≡ Some e) × IsKeptFor done i e = kept-at done is es k i all at in
-    let e = there.0 in (
-      e,
-      ap (λ (xs : List Entry). first_of xs) (sym (first done es all)) ∙ first_of-drop es k ∙ there.1,
-      there.2.kept,
-      λ next. marked-kept (done ++ e ∷ []) is es k place i e (kept-more done (e ∷ []) is es all) at there.1 (ap (λ p. slice_get (done ++ e ∷ []) p) next ∙ get_end done e),
-    )
-
--- no entry is above the stamp
-pub none_released : (last : Option Stamp) (is : List LoggedItem) (k place : ℕ) → ((done es : List Entry) → AreKeptFor done is es → drop k es ≡ above last es) → slice_get is k ≡ None → IsReleased last place None is is
-none_released last is k place first at = λ done es all. (
-  ap (λ (xs : List Entry). first_of xs) (sym (first done es all)) ∙ first_of-drop es k ∙ none-at done is es k all at,
-  refl,
-)
+-- the item is marked as that of the entry that is executed next
+pub marked-next : (done es : List Entry) (is : List LoggedItem) (k place : ℕ) (i : LoggedItem) (e : Entry) → AreKeptFor done is es → slice_get is k ≡ Some i → slice_get es k ≡ Some e → place ≡ length done → AreKeptFor (done ++ e ∷ []) (set is k (marked i place)) es
+marked-next done es is k place i e all at there next =
+    marked-kept (done ++ e ∷ []) is es k place i e (kept-more done (e ∷ []) is es all) at there (ap (λ p. slice_get (done ++ e ∷ []) p) next ∙ get_end done e)
 
 -- ---- the first entry above a stamp
 

@@ -1,11 +1,16 @@
 -- The bytes of ranges stay when chunks grow.
 use Rattle.std.proofs.Common.{◌≡◌, ℕ, suc, zero, ◌<◌, ◌≤◌, ◌+◌, ◌-◌, List, [], ◌∷◌, ◌++◌, refl, ap, sym, ◌∙◌, arith, length, get_or, set, length-append, subst}
-use Rattle.std.specs.Prelude.{slice_range, slice_get, Some, None}
+use Rattle.std.specs.Prelude.{slice_range, slice_get, Some, None, Result, Ok, Err, OnErr}
 use Rattle.std.specs.List.{AllByRecursion}
 use Rattle.crsm_fact_log.proofs.Lists.{all_got, all-push, get_or-grown, get_or-set, at_set, length-set, range-grown, range-end}
 use Rattle.crsm_ledger.specs.declared.spelt.SpellingRange.{SpellingRange}
 use Rattle.crsm_ledger.specs.Pieces.{piece, pieces, AreSpelt, HasOpenChunk, IsSpelling, IsWithin, Keeps}
 use Rattle.crsm_base.proofs.Sizes.{entry_short}
+
+-- what holds anyway holds at an error
+pub on_err : {T E : Type 0} (r : Result T E) (P : Type 0) → P → OnErr r P
+on_err (Ok t) P p = tt
+on_err (Err e) P p = p
 
 -- ---- chunks
 

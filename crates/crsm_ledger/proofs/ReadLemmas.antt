@@ -1,11 +1,14 @@
 -- The fact of the log in each field.
 use Rattle.std.proofs.Common.{◌≡◌, ℕ, ap}
 use Rattle.std.specs.Prelude.{unwrap_or}
+use Rattle.std.proofs.Math.Logic.{∥∥₁_map}
 use Rattle.crsm_spec.specs.Lists.{numbers_below}
-use Rattle.crsm_spec.specs.Log.{Log, known, start, spec, boots, live, suspended, has_entered, promised, accepted}
+use Rattle.crsm_spec.specs.Log.{Log, known, start, spec, boots, live, suspended, has_entered, promised, accepted, executed, logged}
 use Rattle.crsm_ledger.specs.declared.ledger.Ledger.{Ledger}
 use Rattle.crsm_fact_log.proofs.Known.{known-spec}
-use Rattle.crsm_ledger.specs.Ledger.{FieldsStand, facts_of, known_decision}
+use Rattle.crsm_ledger.specs.Held.{HasEntries, Holds}
+use Rattle.crsm_ledger.specs.Ledger.{FieldsStand, HasLogged, HoldsLogged, LedgerStands, facts_of, known_decision}
+use Rattle.crsm_ledger.proofs.ExecutedLemmas.{stands-spells}
 
 pub me-is : {me n : ℕ} {l : Ledger} {log : Log} → FieldsStand me n l log → l.me ≡ me
 unfolding facts_of
@@ -55,3 +58,21 @@ accepted-is s = ap (λ f. f.accepted) s.facts
 
 pub spec-is : {me n : ℕ} {l : Ledger} {log : Log} → FieldsStand me n l log → unwrap_or l.known.spec (numbers_below n) ≡ spec n log
 spec-is {n = n} {log = log} s = rw (known-is s) (known-spec n log)
+
+-- ---- what it holds
+
+pub holds : {me n : ℕ} {l : Ledger} {log : Log} → FieldsStand me n l log → Holds l.held.history l.held.logged (known log) (executed log) (logged log)
+holds s = record { executed = s.executed; kept = s.kept }
+
+-- the logged entries of a log that the ledger stands for are those that it holds
+pub stands-logged : {me n : ℕ} {l : Ledger} {log : Log} → LedgerStands me n l log → HoldsLogged l (logged log)
+stands-logged {log = log} s = record { done = executed log; executed = stands-spells s.says.executed; kept = s.says.kept }
+
+-- some logged entries are held
+pub has-logged : (l : Ledger) → ∥ HasEntries l.held.history.spelt l.held.history.epoch l.held.logged ∥₁ → ∥ HasLogged l ∥₁
+has-logged l held = ∥∥₁_map held (λ h. record {
+  entries = h.logged;
+  holds = record { done = h.done; executed = h.executed; kept = h.kept };
+  fit = h.fit;
+  rise = h.rise;
+})

@@ -9,8 +9,9 @@ use Rattle.crsm_spec.specs.Types.{Stamp, Ballot, Entry, Decision, Rec}
 use Rattle.crsm_spec.specs.Lists.{first_of, numbers_below}
 use Rattle.crsm_spec.specs.Log.{Log, decision, known, start, boots, is_boot, is_enter, live, suspended, has_entered, promised, no_ballot, accepted, with_entry, logged_in, logged, entry_of, executed, last_stamp, unexecuted}
 use Rattle.crsm_ledger.specs.declared.ledger.Ledger.{Ledger}
-use Rattle.crsm_ledger.specs.declared.history.History.{History}
+use Rattle.crsm_ledger.specs.declared.held.HeldEntries.{HeldEntries}
 use Rattle.crsm_ledger.specs.Executed.{HistoryStands}
+use Rattle.crsm_ledger.specs.Held.{Holds}
 use Rattle.crsm_ledger.specs.Ledger.{Facts, FieldsStand, facts_of, fields_of, known_decision}
 use Rattle.crsm_fact_log.proofs.Lists.{all-push, all-append, all_more}
 use Rattle.crsm_ledger.proofs.LoggedLemmas.{stamp_eq-same, find-above, kept-more}
@@ -96,15 +97,15 @@ says-enter {me} {n} {l} {log} s x is = record {
   };
 }
 
-pub says-decide : {me n : ℕ} {l : Ledger} {log : Log} (s : FieldsStand me n l log) (d : Decision) (h : History) (items : List LoggedItem) → known log < d.epoch → HistoryStands h d.epoch (executed log) → items ≡ [] → FieldsStand me n (record l { known = d; start = d.base_len + length d.tail; is_live = false; is_suspended = false; has_entered = false; promised = no_ballot; accepted = None; logged = items; history = h }) (Rec.Decide d ∷ log)
+pub says-decide : {me n : ℕ} {l : Ledger} {log : Log} (s : FieldsStand me n l log) (d : Decision) (held : HeldEntries) → known log < d.epoch → Holds held.history held.logged d.epoch (executed log) [] → FieldsStand me n (record l { known = d; start = d.base_len + length d.tail; is_live = false; is_suspended = false; has_entered = false; promised = no_ballot; accepted = None; held = held }) (Rec.Decide d ∷ log)
 unfolding facts_of is_boot known known_decision decision start live suspended has_entered promised accepted logged logged_in executed is_enter
-says-decide {me} {n} {l} {log} s d h items after begun none = record {
+says-decide {me} {n} {l} {log} s d held after begun = record {
   few = s.few;
   facts = ap (λ (f : Facts). record f { known = d; start = d.base_len + length d.tail; live = false; suspended = false; entered = false; promised = no_ballot; accepted = None }) s.facts
       ∙ ap (λ (count : ℕ). record (facts_of me n log) { known = d; start = d.base_len + length d.tail; live = false; suspended = false; entered = false; promised = no_ballot; accepted = None; boots = count }) (sym (boots-other (Rec.Decide d) log refl))
       ∙ ap (λ (entered : Bool). record (facts_of me n log) { known = d; start = d.base_len + length d.tail; live = false; suspended = false; entered = entered; promised = no_ballot; accepted = None; boots = boots (Rec.Decide d ∷ log) }) (sym (s.none_above.entered d.epoch after));
-  executed = begun;
-  kept = subst (λ (es : List Entry). AreKeptFor (executed log) items es) (sym (s.none_above.logged d.epoch after)) (subst (λ (is : List LoggedItem). AreKeptFor (executed log) is []) (sym none) tt);
+  executed = begun.executed;
+  kept = subst (λ (es : List Entry). AreKeptFor (executed log) held.logged es) (sym (s.none_above.logged d.epoch after)) begun.kept;
   none_above = record {
     logged = λ y later. s.none_above.logged y (let more : d.epoch < y = later in omega (arith, after, more));
     entered = λ y later. s.none_above.entered y (let more : d.epoch < y = later in omega (arith, after, more));
@@ -114,13 +115,13 @@ says-decide {me} {n} {l} {log} s d h items after begun none = record {
 
 -- ---- records that name entries
 
-pub says-prepare : {me n : ℕ} {l : Ledger} {log : Log} (s : FieldsStand me n l log) (e : Entry) (items : List LoggedItem) → e.epoch ≡ known log → AreKeptFor (executed log) items (with_entry e (logged log)) → FieldsStand me n (record l { logged = items }) (Rec.Prepare e ∷ log)
+pub says-prepare : {me n : ℕ} {l : Ledger} {log : Log} (s : FieldsStand me n l log) (e : Entry) (held : HeldEntries) → e.epoch ≡ known log → Holds held.history held.logged (known log) (executed log) (with_entry e (logged log)) → FieldsStand me n (record l { held = held }) (Rec.Prepare e ∷ log)
 unfolding facts_of is_boot known known_decision decision start live suspended has_entered promised accepted logged logged_in executed is_enter
-says-prepare {me} {n} {l} {log} s e items is kept = record {
+says-prepare {me} {n} {l} {log} s e held is holds = record {
   few = s.few;
   facts = s.facts ∙ ap (λ (count : ℕ). record (facts_of me n log) { boots = count }) (sym (boots-other (Rec.Prepare e) log refl));
-  executed = s.executed;
-  kept = subst (λ (same : Bool). AreKeptFor (executed log) items (if same then with_entry e (logged log) else logged log)) (sym (eqb-true e.epoch (known log) is)) kept;
+  executed = holds.executed;
+  kept = subst (λ (same : Bool). AreKeptFor (executed log) held.logged (if same then with_entry e (logged log) else logged log)) (sym (eqb-true e.epoch (known log) is)) holds.kept;
   none_above = record {
     logged = λ y after. rw (eqb-false e.epoch y (let below : known log < y = after in omega (arith, is, below))) (s.none_above.logged y after);
     entered = s.none_above.entered;
@@ -135,13 +136,13 @@ committed log t e next same =
     subst (λ (u : Stamp). find (λ f. stamp_eq f.stamp u) (logged log) ≡ Some e) (stamp_eq-same e.stamp t same)
     (find-above (last_stamp log) (logged log) e next)
 
-pub says-commit : {me n : ℕ} {l : Ledger} {log : Log} (s : FieldsStand me n l log) (t : Stamp) (e : Entry) (h : History) (items : List LoggedItem) → first_of (unexecuted log) ≡ Some e → stamp_eq e.stamp t ≡ true → e.epoch ≡ known log → HistoryStands h (known log) (executed log ++ e ∷ []) → AreKeptFor (executed log ++ e ∷ []) items (logged log) → FieldsStand me n (record l { logged = items; history = h }) (Rec.Commit t ∷ log)
+pub says-commit : {me n : ℕ} {l : Ledger} {log : Log} (s : FieldsStand me n l log) (t : Stamp) (e : Entry) (held : HeldEntries) → first_of (unexecuted log) ≡ Some e → stamp_eq e.stamp t ≡ true → e.epoch ≡ known log → Holds held.history held.logged (known log) (executed log ++ e ∷ []) (logged log) → FieldsStand me n (record l { held = held }) (Rec.Commit t ∷ log)
 unfolding facts_of is_boot known known_decision decision start live suspended has_entered promised accepted logged logged_in executed is_enter
-says-commit {me} {n} {l} {log} s t e h items next same of_known done kept = record {
+says-commit {me} {n} {l} {log} s t e held next same of_known holds = record {
   few = s.few;
   facts = s.facts ∙ ap (λ (count : ℕ). record (facts_of me n log) { boots = count }) (sym (boots-other (Rec.Commit t) log refl));
-  executed = rw (committed log t e next same) done;
-  kept = rw (committed log t e next same) kept;
+  executed = rw (committed log t e next same) holds.executed;
+  kept = rw (committed log t e next same) holds.kept;
   none_above = record {
     logged = s.none_above.logged;
     entered = s.none_above.entered;
@@ -149,13 +150,13 @@ says-commit {me} {n} {l} {log} s t e h items next same of_known done kept = reco
   };
 }
 
-pub says-adopt : {me n : ℕ} {l : Ledger} {log : Log} (s : FieldsStand me n l log) (place : ℕ) (es : List Entry) (h : History) → AllByRecursion (λ e. e.epoch ≤ known log) es → HistoryStands h (known log) (executed log ++ es) → FieldsStand me n (record l { history = h }) (Rec.Adopt place es ∷ log)
+pub says-adopt : {me n : ℕ} {l : Ledger} {log : Log} (s : FieldsStand me n l log) (place : ℕ) (es : List Entry) (held : HeldEntries) → AllByRecursion (λ e. e.epoch ≤ known log) es → HistoryStands held.history (known log) (executed log ++ es) → held.logged ≡ l.held.logged → FieldsStand me n (record l { held = held }) (Rec.Adopt place es ∷ log)
 unfolding facts_of is_boot known known_decision decision start live suspended has_entered promised accepted logged logged_in executed is_enter
-says-adopt {me} {n} {l} {log} s place es h below done = record {
+says-adopt {me} {n} {l} {log} s place es held below done same = record {
   few = s.few;
   facts = s.facts ∙ ap (λ (count : ℕ). record (facts_of me n log) { boots = count }) (sym (boots-other (Rec.Adopt place es) log refl));
   executed = done;
-  kept = kept-more (executed log) es l.logged (logged log) s.kept;
+  kept = subst (λ (is : List LoggedItem). AreKeptFor (executed log ++ es) is (logged log)) (sym same) (kept-more (executed log) es l.held.logged (logged log) s.kept);
   none_above = record {
     logged = s.none_above.logged;
     entered = s.none_above.entered;
@@ -165,16 +166,16 @@ says-adopt {me} {n} {l} {log} s place es h below done = record {
 
 -- ---- no record
 
-pub says-nothing : (me n : ℕ) (l : Ledger) (founders members : List ℕ) (tail : List Entry) → n ≤ 15 → fields_of l ≡ record { me = me; n = n; founders = founders; boots = 0; known = record { epoch = 0; spec = None; members = members; base_len = 0; tail = tail }; start = 0; live = false; suspended = false; entered = false; promised = no_ballot; accepted = None } → founders ≡ numbers_below n → members ≡ numbers_below n → tail ≡ [] → l.logged ≡ [] → HistoryStands l.history 0 [] → FieldsStand me n l []
+pub says-nothing : (me n : ℕ) (l : Ledger) (founders members : List ℕ) (tail : List Entry) → n ≤ 15 → fields_of l ≡ record { me = me; n = n; founders = founders; boots = 0; known = record { epoch = 0; spec = None; members = members; base_len = 0; tail = tail }; start = 0; live = false; suspended = false; entered = false; promised = no_ballot; accepted = None } → founders ≡ numbers_below n → members ≡ numbers_below n → tail ≡ [] → Holds l.held.history l.held.logged 0 [] [] → FieldsStand me n l []
 unfolding facts_of boots known known_decision decision start live suspended has_entered promised accepted logged logged_in executed
-says-nothing me n l founders members tail few fields first all none nothing done = record {
+says-nothing me n l founders members tail few fields first all none holds = record {
   few = few;
   facts = fields
       ∙ ap (λ (ks : List ℕ). record { me = me; n = n; founders = ks; boots = 0; known = record { epoch = 0; spec = None; members = members; base_len = 0; tail = tail }; start = 0; live = false; suspended = false; entered = false; promised = no_ballot; accepted = None }) first
       ∙ ap (λ (ks : List ℕ). record { me = me; n = n; founders = numbers_below n; boots = 0; known = record { epoch = 0; spec = None; members = ks; base_len = 0; tail = tail }; start = 0; live = false; suspended = false; entered = false; promised = no_ballot; accepted = None }) all
       ∙ ap (λ (es : List Entry). record { me = me; n = n; founders = numbers_below n; boots = 0; known = record { epoch = 0; spec = None; members = numbers_below n; base_len = 0; tail = es }; start = 0; live = false; suspended = false; entered = false; promised = no_ballot; accepted = None }) none;
-  executed = done;
-  kept = subst (λ (is : List LoggedItem). AreKeptFor [] is []) (sym nothing) tt;
+  executed = holds.executed;
+  kept = holds.kept;
   none_above = record { logged = λ x after. refl; entered = λ x after. refl; executed = tt };
 }
 

@@ -1,5 +1,5 @@
 -- The relation of the history's fields to the executed entries.
-use Rattle.std.specs.Prelude.{◌≡◌, ℕ, Bool, true, false, ◌==◌, ◌||◌, ◌&&◌, nat_lt, List, [], ◌∷◌, map, filter, Option}
+use Rattle.std.specs.Prelude.{◌≡◌, ℕ, Bool, true, false, ◌==◌, ◌||◌, ◌&&◌, nat_lt, List, [], ◌∷◌, ◌++◌, map, filter, Option}
 use Rattle.std.specs.List.{AllByRecursion}
 use Rattle.std.specs.Option.{option_map, option_map_or}
 use Rattle.crsm_base.specs.Spelling.{entry_bytes, FitsEntry}
@@ -17,6 +17,18 @@ position_of es = option_map (λ e. record { epoch = e.epoch; stamp = e.stamp }) 
 -- the stamp of the last of these entries that is of epoch x
 unfoldable pub last_stamp_in : ℕ → List Entry → Option Stamp
 last_stamp_in x es = option_map (λ e. e.stamp) (last_of (filter (λ e. e.epoch == x) es))
+
+-- these are the encodings of the entries, which have encodings
+pub record Spells (encodings : List (List ℕ)) (es : List Entry) : Type 0 where
+  pub spelt : encodings ≡ map entry_bytes es
+  pub fit : AllByRecursion FitsEntry es
+
+-- further entries, which have encodings, were encoded among the executed ones, in the same epoch
+pub record Grows (old new : History) : Type 0 where
+  pub more : List Entry
+  pub fit : AllByRecursion FitsEntry more
+  pub spelt : new.spelt ≡ old.spelt ++ map entry_bytes more
+  pub epoch : new.epoch ≡ old.epoch
 
 -- these entries are executed, where x is the known epoch
 pub record HistoryStands (h : History) (x : ℕ) (es : List Entry) : Type 0 where

@@ -2,7 +2,8 @@
 use Rattle.std.specs.Prelude.{◌≡◌, ℕ, ◌<◌, ◌≤◌, Bool, true, false, List, [], ◌∷◌, length, Option, Result, IfOk}
 use Rattle.std.specs.List.{AllByRecursion}
 use Rattle.crsm_base.specs.declared.NoMemory.{NoMemory}
-use Rattle.crsm_spec.specs.Types.{Ballot, Decision, Rec, Line}
+use Rattle.crsm_base.specs.Spelling.{FitsEntry, Rises}
+use Rattle.crsm_spec.specs.Types.{Ballot, Entry, Decision, Rec, Line}
 use Rattle.crsm_spec.specs.Lists.{numbers_below}
 use Rattle.crsm_spec.specs.Log.{Log, known, start, boots, live, suspended, has_entered, promised, accepted, logged_in, logged, executed}
 use Rattle.crsm_spec.specs.Fits.{fits}
@@ -10,7 +11,8 @@ use Rattle.crsm_spec.specs.Lines.{lines_of}
 pub use Rattle.crsm_fact_log.specs.Known.{founding}
 unfoldable pub use Rattle.crsm_fact_log.specs.Known.{known_decision}
 use Rattle.crsm_ledger.specs.declared.ledger.Ledger.{Ledger}
-use Rattle.crsm_ledger.specs.Executed.{HistoryStands}
+use Rattle.crsm_ledger.specs.Executed.{HistoryStands, Spells}
+use Rattle.crsm_ledger.specs.Held.{CanBeLogged, HasNext}
 use Rattle.crsm_ledger.specs.Sorted.{AreKeptFor}
 
 -- Of epochs above the known one nothing is logged, executed or entered.
@@ -67,14 +69,43 @@ facts_of me n log = record {
 
 -- how many entries the ledger has executed
 unfoldable pub executed_count : Ledger → ℕ
-executed_count l = length l.history.spelt
+executed_count l = length l.held.history.spelt
+
+-- how many entries of the known epoch the ledger has logged
+unfoldable pub logged_count : Ledger → ℕ
+logged_count l = length l.held.logged
+
+-- these are the logged entries of the known epoch that the ledger holds
+pub record HoldsLogged (l : Ledger) (es : List Entry) : Type 0 where
+  pub done : List Entry
+  pub executed : Spells l.held.history.spelt done
+  pub kept : AreKeptFor done l.held.logged es
+
+-- the ledger holds logged entries, which have encodings and rise
+pub record HasLogged (l : Ledger) : Type 0 where
+  pub entries : List Entry
+  pub holds : HoldsLogged l entries
+  pub fit : AllByRecursion FitsEntry entries
+  pub rise : Rises entries
+
+-- the ledger's entries let the record come next: it logs an entry that is newer, or there is one to execute
+abbrev pub CanFollow : Ledger → Rec → Type 0
+CanFollow l (Rec.Prepare e) = CanBeLogged l.held.history.epoch l.held.logged e
+CanFollow l (Rec.Commit stamp) = HasNext l.held.history.last_stamp l.held.logged
+CanFollow l (Rec.Boot me n) = Unit {0}
+CanFollow l (Rec.Adopt place es) = Unit {0}
+CanFollow l (Rec.Suspend x) = Unit {0}
+CanFollow l (Rec.Promise i b) = Unit {0}
+CanFollow l (Rec.Accept i b d) = Unit {0}
+CanFollow l (Rec.Decide d) = Unit {0}
+CanFollow l (Rec.Enter x) = Unit {0}
 
 -- The fields of the ledger of replica me, in a cluster that began with n, are what the log says.
 pub record FieldsStand (me n : ℕ) (ledger : Ledger) (log : Log) : Type 0 where
   pub few : n ≤ 15
   pub facts : fields_of ledger ≡ facts_of me n log
-  pub kept : AreKeptFor (executed log) ledger.logged (logged log)
-  pub executed : HistoryStands ledger.history (known log) (executed log)
+  pub kept : AreKeptFor (executed log) ledger.held.logged (logged log)
+  pub executed : HistoryStands ledger.held.history (known log) (executed log)
   pub none_above : NoneAbove log
 
 -- If the old ledger's fields are the facts of a log after which the record fits, the lines are the record's, and the

@@ -1,5 +1,6 @@
 pub mod Executed
 pub mod Fields
+pub mod Held
 pub mod Pieces
 pub mod Recovered
 pub mod Sorted

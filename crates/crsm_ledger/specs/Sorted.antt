@@ -1,10 +1,8 @@
 -- What is kept of logged entries, by ascending stamp.
-use Rattle.std.specs.Prelude.{◌≡◌, ℕ, false, List, [], ◌∷◌, ◌++◌, length, slice_get, Option, Some, None, MatchOption}
+use Rattle.std.specs.Prelude.{◌≡◌, ◌<◌, ℕ, false, List, [], ◌∷◌, filter, slice_get, Option, Some, None}
 use Rattle.std.specs.List.{AllByRecursion}
 use Rattle.crsm_base.specs.Spelling.{FitsEntry}
 use Rattle.crsm_spec.specs.Types.{Stamp, Entry}
-use Rattle.crsm_spec.specs.Lists.{first_of}
-use Rattle.crsm_spec.specs.Log.{above}
 use Rattle.crsm_base.specs.Order.{stamp_lt}
 use Rattle.crsm_ledger.specs.declared.kept.Kept.{Kept}
 use Rattle.crsm_ledger.specs.declared.kept.LoggedItem.{LoggedItem}
@@ -53,10 +51,12 @@ AreKeptFor done [] (e ∷ es) = ⊥
 AreKeptFor done (i ∷ is) [] = ⊥
 AreKeptFor done (i ∷ is) (e ∷ es) = IsKeptFor done i e × AreKeptFor done is es
 
--- The first entry above `last` is marked as the one that is executed next, at an index, and this was kept of it; or none
--- is above, and nothing has changed.
-abbrev pub IsReleased : Option Stamp → ℕ → Option Kept → List LoggedItem → List LoggedItem → Type 0
-IsReleased last place result old new =
-    (done es : List Entry) → AreKeptFor done old es →
-    MatchOption result ((first_of (above last es) ≡ None) × (new ≡ old))
-    (λ kept. (e : Entry) × (first_of (above last es) ≡ Some e) × IsKept done kept e × (place ≡ length done → AreKeptFor (done ++ e ∷ []) new es))
+-- where the entry of what is kept is executed, its place is below this number of executed entries
+abbrev pub IsPlaced : ℕ → Kept → Type 0
+IsPlaced count (Kept.Whole entry) = Unit {0}
+IsPlaced count (Kept.Executed place) = place < count
+
+-- the items above a stamp, of all at none
+unfoldable pub items_above : Option Stamp → List LoggedItem → List LoggedItem
+items_above None items = items
+items_above (Some s) items = filter (λ i. stamp_lt s i.stamp) items

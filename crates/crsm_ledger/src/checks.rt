@@ -9,7 +9,7 @@ ghost use Rattle.crsm_base.specs.Order.{stamp_lt, ballot_lt};
 ghost use Rattle.crsm_spec.specs.Fits.{fits, can_be_members};
 ghost use Rattle.crsm_spec.specs.Lists.{numbers_below};
 ghost use Rattle.crsm_ledger.specs.Executed.{goes_on_behind};
-ghost use Rattle.crsm_ledger.specs.Ledger.{FieldsStand, WhereFieldsStand};
+ghost use Rattle.crsm_ledger.specs.Ledger.{CanFollow, FieldsStand, WhereFieldsStand};
 
 use crate::history::Position;
 use crate::ledger::Ledger;
@@ -22,6 +22,13 @@ impl Ledger {
     /// Returns whether the record may come next, so that `apply` accepts it.
     pub fn fits(&self, rec: &Rec) -> bool
         ensures { WhereFieldsStand self.now (λ me n log. result ≡ fits me n log rec.now) }
+    {
+        self.admits(rec)
+    }
+
+    pub(crate) fn admits(&self, rec: &Rec) -> bool
+        ensures value { WhereFieldsStand self.now (λ me n log. result ≡ fits me n log rec.now) }
+        ensures can { result ≡ true → CanFollow self.now rec.now }
     {
         match rec {
             Rec::Boot { me, n } => self.fits_boot(*me, *n),
@@ -47,30 +54,35 @@ impl Ledger {
     }
 
     pub(crate) fn fits_prepare(&self, entry: &Entry) -> bool
-        ensures { WhereFieldsStand self.now (λ me n log. result ≡ fits me n log (Rec.Prepare entry.now)) }
+        ensures value { WhereFieldsStand self.now (λ me n log. result ≡ fits me n log (Rec.Prepare entry.now)) }
+        ensures can { result ≡ true → CanFollow self.now (Rec.Prepare entry.now) }
     {
         let is_member = is_among(self.known.get().members.as_slice(), entry.stamp.origin);
-        let is_newest = self.logged.is_newest(entry);
+        let is_newest = self.held.logged.is_newest(entry);
         self.is_live
             & !self.is_suspended
-            & (entry.epoch == self.known.get().epoch)
+            & (entry.epoch == self.held.history.epoch())
             & is_member
             & is_newest
     }
 
     pub(crate) fn fits_commit(&self, stamp: Stamp) -> bool
-        ensures { WhereFieldsStand self.now (λ me n log. result ≡ fits me n log (Rec.Commit stamp)) }
+        ensures value { WhereFieldsStand self.now (λ me n log. result ≡ fits me n log (Rec.Commit stamp)) }
+        ensures can { result ≡ true → CanFollow self.now (Rec.Commit stamp) }
     {
-        let is_next = self.logged.is_next(self.history.last_stamp(), stamp);
+        let is_next = self
+            .held
+            .logged
+            .is_next(self.held.history.last_stamp(), stamp);
         self.is_live & !self.is_suspended & is_next
     }
 
     pub(crate) fn fits_adopt(&self, place: u64, entries: &[Entry]) -> bool
         ensures { WhereFieldsStand self.now (λ me n log. result ≡ fits me n log (Rec.Adopt place entries.now)) }
     {
-        let is_place = place == self.history.len();
+        let is_place = place == self.held.history.len();
         let are_known = all_up_to(entries, self.known.get().epoch);
-        let are_behind = stand_behind(self.history.last(), entries);
+        let are_behind = stand_behind(self.held.history.last(), entries);
         (0 < self.boots) & is_place & are_known & are_behind & (!self.is_live | self.is_suspended)
     }
 
@@ -95,7 +107,7 @@ impl Ledger {
         let decides_next = is_after(decision.epoch, self.known.get().epoch);
         let is_below_promise = ballot_precedes(ballot, self.promised.get());
         let is_above_accepted = is_above(ballot, self.accepted.get());
-        let has_base = decision.base_len <= self.history.len();
+        let has_base = decision.base_len <= self.held.history.len();
         (0 < self.boots) & is_next & decides_next & !is_below_promise & is_above_accepted & has_base
     }
 
@@ -109,13 +121,10 @@ impl Ledger {
     pub(crate) fn fits_enter(&self, epoch: u64) -> bool
         ensures { WhereFieldsStand self.now (λ me n log. result ≡ fits me n log (Rec.Enter epoch)) }
     {
-        let is_member = is_among(self.known.get().members.as_slice(), self.me);
-        let is_start = self.history.len() == self.start;
-        (0 < self.boots)
-            & (epoch == self.known.get().epoch)
-            & is_member
-            & is_start
-            & !self.has_entered
+        let known = self.known.get();
+        let is_member = is_among(known.members.as_slice(), self.me);
+        let is_start = self.held.history.len() == self.start;
+        (0 < self.boots) & (epoch == known.epoch) & is_member & is_start & !self.has_entered
     }
 }
 

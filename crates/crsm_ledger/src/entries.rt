@@ -5,6 +5,7 @@ ghost use Rattle.crsm_base.specs.declared.Rec.{Rec};
 ghost use Rattle.crsm_base.specs.declared.Stamp.{Stamp};
 ghost use Rattle.crsm_base.specs.Spelling.{FitsEntry, FitsEntries, FitsDecision};
 ghost use Rattle.crsm_spec.specs.Lines.{lines_of};
+ghost use Rattle.crsm_ledger.specs.Held.{CanBeLogged, HasNext};
 ghost use Rattle.crsm_ledger.specs.Ledger.{Keeps};
 
 use crate::ledger::Ledger;
@@ -13,7 +14,8 @@ use crsm_base::{Decision, Entries, Entry, Line, Lines, NoMemory};
 
 impl Ledger {
     pub(crate) fn keep_prepare(&mut self, entry: &Entry) -> Result<Lines, NoMemory>
-        requires { FitsEntry entry.now }
+        requires fits { FitsEntry entry.now }
+        requires next { CanBeLogged self.old.held.history.epoch self.old.held.logged entry.now }
         ensures kept { Keeps self.old (Rec.Prepare entry.now) result self.new }
         ensures mark { self.new.is_spent ≡ self.old.is_spent }
     {
@@ -24,14 +26,12 @@ impl Ledger {
     }
 
     pub(crate) fn keep_commit(&mut self) -> Result<Lines, NoMemory>
+        requires { HasNext self.old.held.history.last_stamp self.old.held.logged }
         ensures kept { (stamp : Stamp) → Keeps self.old (Rec.Commit stamp) result self.new }
         ensures mark { self.new.is_spent ≡ self.old.is_spent }
     {
-        let mut lines = Lines::new(self.alloc);
-        let Some(entry) = self.logged.release_next(&self.history)? else {
-            return Ok(lines);
-        };
-        self.history.execute(self.me, &entry, &mut lines)?;
+        let line = self.held.run_next(self.me)?;
+        let lines = one_line(self.alloc, line)?;
         Ok(lines)
     }
 
@@ -41,7 +41,7 @@ impl Ledger {
         ensures mark { self.new.is_spent ≡ self.old.is_spent }
     {
         let mut lines = Lines::new(self.alloc);
-        self.history
+        self.held
             .execute_all(self.me, entries.as_slice(), &mut lines)?;
         Ok(lines)
     }

@@ -6,7 +6,8 @@ ghost use Rattle.crsm_base.specs.declared.Rec.{Rec};
 ghost use Rattle.crsm_base.specs.declared.Stamp.{Stamp};
 ghost use Rattle.crsm_base.specs.Records.{FitsRec};
 ghost use Rattle.crsm_base.specs.Spelling.{FitsBallot, FitsEntry, FitsEntries, FitsDecision};
-ghost use Rattle.crsm_ledger.specs.Ledger.{Follows};
+ghost use Rattle.crsm_ledger.specs.Held.{CanBeLogged, HasNext};
+ghost use Rattle.crsm_ledger.specs.Ledger.{CanFollow, Follows};
 
 use crate::fields::{AcceptedVote, KnownDecision, PromisedBallot};
 use crate::ledger::{Ledger, NO_BALLOT};
@@ -15,7 +16,8 @@ use crsm_base::{Ballot, Decision, Entries, Entry, NoMemory, Rec};
 impl Ledger {
     /// Applies a record that may come next, by value. `NoMemory` if memory runs out; the fields are then unspecified.
     pub(crate) fn follow(&mut self, rec: Rec) -> Result<(), NoMemory>
-        requires { FitsRec rec }
+        requires fits { FitsRec rec }
+        requires can { CanFollow self.old rec }
         ensures kept { OnOk result (Follows self.old rec self.new) }
         ensures mark { self.new.is_spent ≡ self.old.is_spent }
     {
@@ -48,26 +50,25 @@ impl Ledger {
     }
 
     pub(crate) fn follow_prepare(&mut self, entry: Entry) -> Result<(), NoMemory>
-        requires { FitsEntry entry }
+        requires fits { FitsEntry entry }
+        requires next { CanBeLogged self.old.held.history.epoch self.old.held.logged entry }
         ensures kept { OnOk result (Follows self.old (Rec.Prepare entry) self.new) }
         ensures accepted { self.new.accepted ≡ self.old.accepted }
         ensures known { self.new.known ≡ self.old.known }
         ensures mark { self.new.is_spent ≡ self.old.is_spent }
     {
-        self.logged.insert(entry)?;
+        self.held.log(entry)?;
         Ok(())
     }
 
     pub(crate) fn follow_commit(&mut self) -> Result<(), NoMemory>
+        requires { HasNext self.old.held.history.last_stamp self.old.held.logged }
         ensures kept { (stamp : Stamp) → OnOk result (Follows self.old (Rec.Commit stamp) self.new) }
         ensures accepted { self.new.accepted ≡ self.old.accepted }
         ensures known { self.new.known ≡ self.old.known }
         ensures mark { self.new.is_spent ≡ self.old.is_spent }
     {
-        let Some(entry) = self.logged.release_next(&self.history)? else {
-            return Ok(());
-        };
-        let _answer = self.history.run(&entry)?;
+        let _line = self.held.run_next(self.me)?;
         Ok(())
     }
 
@@ -76,7 +77,7 @@ impl Ledger {
         ensures kept { (place : ℕ) → OnOk result (Follows self.old (Rec.Adopt place entries.now) self.new) }
         ensures mark { self.new.is_spent ≡ self.old.is_spent }
     {
-        self.history.run_all(entries.as_slice())?;
+        self.held.run_all(entries.as_slice())?;
         Ok(())
     }
 
@@ -123,14 +124,13 @@ impl Ledger {
         ensures mark { self.new.is_spent ≡ self.old.is_spent }
     {
         self.start = decision.base_len + decision.tail.as_slice().len() as u64;
-        self.history.begin_epoch(decision.epoch);
+        self.held.begin_epoch(decision.epoch);
         self.known = KnownDecision { decision };
         self.is_live = false;
         self.is_suspended = false;
         self.has_entered = false;
         self.promised = PromisedBallot { ballot: NO_BALLOT };
         self.accepted = AcceptedVote { vote: None };
-        self.logged.clear();
     }
 
     pub(crate) fn follow_enter(&mut self)

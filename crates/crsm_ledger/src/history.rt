@@ -7,9 +7,9 @@ ghost use Rattle.crsm_base.specs.declared.Entry.{Entry};
 ghost use Rattle.crsm_base.specs.Spelling.{FitsEntry, FitsOption, FitsStamp, entry_bytes};
 ghost use Rattle.crsm_base.specs.Store.{apply};
 ghost use Rattle.crsm_spec.specs.Lines.{exec_line, exec_lines};
-ghost use Rattle.crsm_ledger.specs.Executed.{HistoryStands, position_of, last_stamp_in};
+ghost use Rattle.crsm_ledger.specs.Executed.{Grows, HistoryStands, Spells, last_stamp_in, position_of};
 ghost use Rattle.crsm_ledger.specs.Pieces.{IsSpelling};
-ghost use Rattle.crsm_ledger.specs.Sorted.{FitsKept, IsKept};
+ghost use Rattle.crsm_ledger.specs.Sorted.{FitsKept, IsKept, IsPlaced};
 
 use crate::fields::LastStamp;
 use crate::kept::Kept;
@@ -79,14 +79,24 @@ impl History {
     /// Returns the stamp of the last executed entry of the known epoch, or `None` if there is none.
     pub fn last_stamp(&self) -> Option<Stamp>
         ensures value { (x : ℕ) (es : List Entry) → HistoryStands self.now x es → result ≡ last_stamp_in x es }
+        ensures is { result ≡ self.now.last_stamp }
         ensures fits { FitsOption FitsStamp result }
     {
         self.last_stamp.get()
     }
 
+    /// Returns the number of the known epoch.
+    pub fn epoch(&self) -> u64
+        ensures { result ≡ self.now.epoch }
+    {
+        self.epoch
+    }
+
     /// Begins the next epoch, in which no entry is executed yet.
     pub fn begin_epoch(&mut self, epoch: u64)
-        ensures { (x : ℕ) (es : List Entry) → HistoryStands self.old x es → AllByRecursion (λ e. e.epoch < epoch) es → HistoryStands self.new epoch es }
+        ensures epoch { self.new.epoch ≡ epoch }
+        ensures spelt { self.new.spelt ≡ self.old.spelt }
+        ensures begun { (x : ℕ) (es : List Entry) → HistoryStands self.old x es → AllByRecursion (λ e. e.epoch < epoch) es → HistoryStands self.new epoch es }
     {
         self.epoch = epoch;
         self.last_stamp = LastStamp { stamp: None };
@@ -102,7 +112,7 @@ impl History {
     /// Returns the executed entry with this index. `NoMemory` if memory runs out.
     pub fn entry(&self, place: u64) -> Result<Entry, NoMemory>
         requires { place < length self.now.spelt }
-        ensures value { (x : ℕ) (es : List Entry) → HistoryStands self.now x es → IfOk result (λ e. slice_get es place ≡ Some e) }
+        ensures value { (es : List Entry) → Spells self.now.spelt es → IfOk result (λ e. slice_get es place ≡ Some e) }
         ensures fit { IfOk result FitsEntry }
     {
         let entry = read_back(self.alloc, self.spelt.at(place as usize))?;
@@ -122,38 +132,48 @@ impl History {
         }
     }
 
-    /// Returns a copy of the logged entry of which this is kept, or `None` if it was to be executed and is not.
-    /// `NoMemory` if memory runs out.
-    pub fn copy(&self, kept: &Kept) -> Result<Option<Entry>, NoMemory>
-        ensures value { (x : ℕ) (es : List Entry) (e : Entry) → HistoryStands self.now x es → IsKept es kept.now e → IfOk result (λ r. r ≡ Some e) }
-        ensures fit { FitsKept kept.now → IfOk result (λ r. IfSome r FitsEntry) }
+    /// Returns a copy of the logged entry of which this is kept. `NoMemory` if memory runs out.
+    pub fn copy(&self, kept: &Kept) -> Result<Entry, NoMemory>
+        requires { IsPlaced (length self.now.spelt) kept.now }
+        ensures value { (es : List Entry) (e : Entry) → Spells self.now.spelt es → IsKept es kept.now e → IfOk result (λ r. r ≡ e) }
+        ensures fit { FitsKept kept.now → IfOk result FitsEntry }
     {
         match kept {
-            Kept::Whole { entry } => Ok(Some(entry.copy(self.alloc)?)),
-            Kept::Executed { place } => self.executed(*place),
+            Kept::Whole { entry } => {
+                let copy = entry.copy(self.alloc)?;
+                Ok(copy)
+            }
+            Kept::Executed { place } => self.entry(*place),
         }
     }
 
-    /// Returns the logged entry of which this is kept, or `None` if it was to be executed and is not. `NoMemory` if
-    /// memory runs out.
-    pub fn restore(&self, kept: Kept) -> Result<Option<Entry>, NoMemory>
-        ensures value { (x : ℕ) (es : List Entry) (e : Entry) → HistoryStands self.now x es → IsKept es kept e → IfOk result (λ r. r ≡ Some e) }
-        ensures fit { FitsKept kept → IfOk result (λ r. IfSome r FitsEntry) }
+    /// Executes the logged entry of which this is kept, and returns its line. `NoMemory` if memory runs out.
+    pub fn run_kept(&mut self, me: u32, kept: &Kept) -> Result<Line, NoMemory>
+        requires placed { IsPlaced (length self.old.spelt) kept.now }
+        requires fits { FitsKept kept.now }
+        ensures executed { (x : ℕ) (es : List Entry) (e : Entry) → HistoryStands self.old x es → IsKept es kept.now e → IfOk result (λ line. HistoryStands self.new x (es ++ e ∷ []) × (line ≡ exec_line me es e)) }
+        ensures spelt { (es : List Entry) (e : Entry) → Spells self.old.spelt es → IsKept es kept.now e → OnOk result (Spells self.new.spelt (es ++ e ∷ [])) }
+        ensures grows { Grows self.old self.new }
     {
         match kept {
-            Kept::Whole { entry } => Ok(Some(Box::into_inner(entry))),
-            Kept::Executed { place } => self.executed(place),
+            Kept::Whole { entry } => self.run_line(me, entry),
+            Kept::Executed { place } => {
+                let entry = self.entry(*place)?;
+                self.run_line(me, &entry)
+            }
         }
     }
 
-    /// Executes an entry and appends its line. `NoMemory` if memory runs out.
-    pub fn execute(&mut self, me: u32, entry: &Entry, lines: &mut Lines) -> Result<(), NoMemory>
+    /// Executes an entry and returns its line. `NoMemory` if memory runs out.
+    fn run_line(&mut self, me: u32, entry: &Entry) -> Result<Line, NoMemory>
         requires { FitsEntry entry.now }
-        ensures { (x : ℕ) (es : List Entry) → HistoryStands self.old x es → OnOk result (HistoryStands self.new x (es ++ entry.now ∷ []) × (lines.new ≡ lines.old ++ exec_line me es entry.now ∷ [])) }
+        ensures executed { (x : ℕ) (es : List Entry) → HistoryStands self.old x es → IfOk result (λ line. HistoryStands self.new x (es ++ entry.now ∷ []) × (line ≡ exec_line me es entry.now)) }
+        ensures spelt { OnOk result (self.new.spelt ≡ self.old.spelt ++ entry_bytes entry.now ∷ []) }
+        ensures grows { Grows self.old self.new }
     {
         let place = self.spelt.len() as u64;
         let answer = self.run(entry)?;
-        lines.push(Line::Exec {
+        Ok(Line::Exec {
             replica: me,
             place,
             epoch: entry.epoch,
@@ -164,11 +184,23 @@ impl History {
         })
     }
 
+    /// Executes an entry and appends its line. `NoMemory` if memory runs out.
+    fn execute(&mut self, me: u32, entry: &Entry, lines: &mut Lines) -> Result<(), NoMemory>
+        requires { FitsEntry entry.now }
+        ensures executed { (x : ℕ) (es : List Entry) → HistoryStands self.old x es → OnOk result (HistoryStands self.new x (es ++ entry.now ∷ []) × (lines.new ≡ lines.old ++ exec_line me es entry.now ∷ [])) }
+        ensures grows { Grows self.old self.new }
+    {
+        let line = self.run_line(me, entry)?;
+        lines.push(line)
+    }
+
     /// Executes an entry and returns the store's answer. `NoMemory` if memory runs out.
-    pub fn run(&mut self, entry: &Entry) -> Result<Answer, NoMemory>
+    fn run(&mut self, entry: &Entry) -> Result<Answer, NoMemory>
         requires { FitsEntry entry.now }
         ensures executed { (x : ℕ) (es : List Entry) → HistoryStands self.old x es → OnOk result (HistoryStands self.new x (es ++ entry.now ∷ [])) }
         ensures answer { IfOk result (λ answer. answer ≡ (apply self.old.store entry.now.command).1) }
+        ensures spelt { OnOk result (self.new.spelt ≡ self.old.spelt ++ entry_bytes entry.now ∷ []) }
+        ensures grows { Grows self.old self.new }
     {
         self.spelling.clear();
         put_entry(entry, &mut self.spelling)?;
@@ -189,7 +221,8 @@ impl History {
     /// Executes entries without writing their lines. `NoMemory` if memory runs out.
     pub fn run_all(&mut self, entries: &[Entry]) -> Result<(), NoMemory>
         requires { AllByRecursion FitsEntry entries.now }
-        ensures { (x : ℕ) (es : List Entry) → HistoryStands self.old x es → OnOk result (HistoryStands self.new x (es ++ entries.now)) }
+        ensures executed { (x : ℕ) (es : List Entry) → HistoryStands self.old x es → OnOk result (HistoryStands self.new x (es ++ entries.now)) }
+        ensures grows { Grows self.old self.new }
     {
         for entry in entries {
             let _answer = self.run(entry)?;
@@ -205,7 +238,8 @@ impl History {
         lines: &mut Lines,
     ) -> Result<(), NoMemory>
         requires { AllByRecursion FitsEntry entries.now }
-        ensures { (x : ℕ) (es : List Entry) → HistoryStands self.old x es → OnOk result (HistoryStands self.new x (es ++ entries.now) × (lines.new ≡ lines.old ++ exec_lines me es entries.now)) }
+        ensures executed { (x : ℕ) (es : List Entry) → HistoryStands self.old x es → OnOk result (HistoryStands self.new x (es ++ entries.now) × (lines.new ≡ lines.old ++ exec_lines me es entries.now)) }
+        ensures grows { Grows self.old self.new }
     {
         for entry in entries {
             self.execute(me, entry, lines)?;

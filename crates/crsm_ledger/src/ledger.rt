@@ -9,14 +9,13 @@ ghost use Rattle.crsm_base.specs.Members.{IsMembers};
 ghost use Rattle.crsm_base.specs.Records.{FitsRec};
 ghost use Rattle.crsm_spec.specs.Fits.{fits, goes_on};
 ghost use Rattle.crsm_spec.specs.Lines.{lines_of};
-ghost use Rattle.crsm_ledger.specs.Ledger.{executed_count, kind, WhereStands};
+ghost use Rattle.crsm_ledger.specs.Ledger.{HasLogged, HoldsLogged, WhereStands, executed_count, kind, logged_count};
 ghost use Rattle.crsm_spec.specs.Log.{boots, start, live, suspended, executed, logged, above, unexecuted, last_stamp, promised, accepted, spec};
 
 use crate::checks::stands_behind;
 use crate::error::LedgerError;
 use crate::fields::{AcceptedVote, KnownDecision, PromisedBallot};
-use crate::history::History;
-use crate::logged::Logged;
+use crate::held::HeldEntries;
 use crsm_base::{
     Ballot, Decision, Entries, Entry, Lines, Members, MembersError, NoMemory, Rec, Stamp,
     first_replicas,
@@ -42,9 +41,7 @@ pub struct Ledger {
     pub(crate) has_entered: bool,
     pub(crate) promised: PromisedBallot,
     pub(crate) accepted: AcceptedVote,
-    /// The logged entries of the known epoch.
-    pub(crate) logged: Logged,
-    pub(crate) history: History,
+    pub(crate) held: HeldEntries,
 }
 
 /// The promise before any ballot was promised.
@@ -77,7 +74,7 @@ impl Ledger {
         let numbers = first_replicas(n);
         let founders = members_of(alloc, numbers)?;
         let members = members_of(alloc, numbers)?;
-        let history = History::new(alloc)?;
+        let held = HeldEntries::new(alloc)?;
         let decision = Decision {
             epoch: 0,
             spec: None,
@@ -99,8 +96,7 @@ impl Ledger {
             has_entered: false,
             promised: PromisedBallot { ballot: NO_BALLOT },
             accepted: AcceptedVote { vote: None },
-            logged: Logged::new(alloc),
-            history,
+            held,
         })
     }
 
@@ -147,7 +143,7 @@ impl Ledger {
         ensures count { result ≡ executed_count self.now }
         ensures few { result < 2 ^ 63 }
     {
-        self.history.len()
+        self.held.history.len()
     }
 
     /// Returns the executed entry with this index, or `None` if the index is not below `executed_len`. `NoMemory` if
@@ -156,7 +152,7 @@ impl Ledger {
         ensures value { WhereStands self.now (λ me n log. IfOk result (λ r. r ≡ slice_get (executed log) place)) }
         ensures fit { IfOk result (λ r. IfSome r FitsEntry) }
     {
-        self.history.executed(place)
+        self.held.history.executed(place)
     }
 
     /// Returns the executed entry with this index, which is below `executed_len`. `NoMemory` if memory runs out.
@@ -166,7 +162,7 @@ impl Ledger {
         ensures value { WhereStands self.now (λ me n log. IfOk result (λ e. slice_get (executed log) place ≡ Some e)) }
         ensures fit { IfOk result FitsEntry }
     {
-        let entry = self.history.entry(place)?;
+        let entry = self.held.history.entry(place)?;
         Ok(entry)
     }
 
@@ -174,44 +170,46 @@ impl Ledger {
     pub fn is_ahead(&self, entry: &Entry) -> bool
         ensures { WhereStands self.now (λ me n log. result ≡ goes_on (executed log) (entry.now ∷ [])) }
     {
-        stands_behind(self.history.last(), entry)
+        stands_behind(self.held.history.last(), entry)
     }
 
     /// Returns the encoding of the executed entry with this index, or `None` if the index is not below `executed_len`.
     pub fn spelt(&self, place: u64) -> Option<&[u8]>
         ensures { WhereStands self.now (λ me n log. option_copied result ≡ option_map entry_bytes (slice_get (executed log) place)) }
     {
-        self.history.spelt(place)
+        self.held.history.spelt(place)
     }
 
     /// Returns the number of logged entries of the known epoch.
+    #[tactic(auto, unfolding(crate::specs::Ledger::logged_count))]
     pub fn logged_len(&self) -> usize
-        ensures { WhereStands self.now (λ me n log. result ≡ length (logged log)) }
+        ensures value { WhereStands self.now (λ me n log. result ≡ length (logged log)) }
+        ensures count { result ≡ logged_count self.now }
+        ensures holds { (es : List Entry) → HoldsLogged self.now es → result ≡ length es }
+        ensures some { ∥ HasLogged self.now ∥₁ }
     {
-        self.logged.len()
+        self.held.logged.len()
     }
 
-    /// Returns the logged entry of the known epoch with this index, by ascending stamp, or `None` if there are not that
-    /// many. `NoMemory` if memory runs out.
-    pub fn logged_at(&self, index: usize) -> Result<Option<Entry>, NoMemory>
-        ensures value { WhereStands self.now (λ me n log. IfOk result (λ r. r ≡ slice_get (logged log) index)) }
-        ensures fit { IfOk result (λ r. IfSome r FitsEntry) }
+    /// Returns the logged entry of the known epoch with this index, by ascending stamp. `NoMemory` if memory runs out.
+    #[tactic(auto, unfolding(crate::specs::Ledger::logged_count))]
+    pub fn logged_at(&self, index: usize) -> Result<Entry, NoMemory>
+        requires { index < logged_count self.now }
+        ensures value { WhereStands self.now (λ me n log. IfOk result (λ e. slice_get (logged log) index ≡ Some e)) }
+        ensures holds { (es : List Entry) → HoldsLogged self.now es → IfOk result (λ e. slice_get es index ≡ Some e) }
+        ensures fit { IfOk result FitsEntry }
     {
-        match self.logged.get(index) {
-            Some(item) => {
-                let entry = self.history.copy(&item.kept)?;
-                Ok(entry)
-            }
-            None => Ok(None),
-        }
+        let entry = self.held.entry(index)?;
+        Ok(entry)
     }
 
     /// Returns the index of the first logged entry of the known epoch above a stamp (at `None` of the first of all), or
     /// their number if there is none.
     pub fn first_above(&self, stamp: Option<Stamp>) -> usize
-        ensures { WhereStands self.now (λ me n log. drop result (logged log) ≡ above stamp (logged log)) }
+        ensures value { WhereStands self.now (λ me n log. drop result (logged log) ≡ above stamp (logged log)) }
+        ensures holds { (es : List Entry) → HoldsLogged self.now es → drop result es ≡ above stamp es }
     {
-        self.logged.first_above(stamp)
+        self.held.logged.first_above(stamp)
     }
 
     /// Returns the number of logged entries of the known epoch that are not executed.
@@ -219,8 +217,8 @@ impl Ledger {
     pub fn unexecuted_len(&self) -> u64
         ensures { WhereStands self.now (λ me n log. result ≡ length (unexecuted log)) }
     {
-        let first = self.logged.first_above(self.history.last_stamp());
-        (self.logged.len() - first) as u64
+        let first = self.held.logged.first_above(self.held.history.last_stamp());
+        (self.held.logged.len() - first) as u64
     }
 
     /// Returns the stamp of the last executed entry of the known epoch, or `None` if there is none.
@@ -228,7 +226,7 @@ impl Ledger {
         ensures value { WhereStands self.now (λ me n log. result ≡ last_stamp log) }
         ensures fits { FitsOption FitsStamp result }
     {
-        self.history.last_stamp()
+        self.held.history.last_stamp()
     }
 
     /// Returns the ballot that is promised for the next decision, or round 0 of replica 0 if none is.
@@ -282,7 +280,7 @@ impl Ledger {
         if self.is_spent {
             return Err(LedgerError::NoMemory);
         }
-        if !self.fits(rec) {
+        if !self.admits(rec) {
             return Err(LedgerError::NotFit { why: kind_of(rec) });
         }
         // A caller that sees the error below must not read the effect of half a record.

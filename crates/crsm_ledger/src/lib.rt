@@ -6,6 +6,7 @@ mod entries;
 mod error;
 mod fields;
 mod follow;
+mod held;
 mod history;
 mod kept;
 mod ledger;

@@ -1,25 +1,23 @@
 //! The logged entries of one epoch by ascending stamp. Those that are executed stand in the history, and not here.
 
-ghost use Rattle.std.specs.Prelude.{◌≡◌, ◌<◌, ◌≤◌, ◌==◌, nat_lt, true, false, ℕ, [], ◌∷◌, ◌++◌, List, insert, set, length, get_or, slice_get, drop, not, IfOk, IfSome, OnOk, OnErr};
+ghost use Rattle.std.specs.Prelude.{◌≡◌, ◌<◌, ◌≤◌, ◌==◌, nat_lt, true, false, ℕ, [], List, insert, set, length, get_or, slice_get, drop, not, Some, OnOk, OnErr};
 ghost use Rattle.std.specs.List.{list_any};
-ghost use Rattle.std.specs.Option.{option_copied, option_map_or};
+ghost use Rattle.std.specs.Option.{option_map_or};
 ghost use Rattle.std.specs.List.Sorted.{IsPartitionPoint};
 ghost use Rattle.crsm_base.specs.declared.Entry.{Entry};
 ghost use Rattle.crsm_ledger.specs.declared.kept.LoggedItem.{LoggedItem};
 ghost use Rattle.crsm_base.specs.Order.{stamp_eq, stamp_lt};
-ghost use Rattle.crsm_ledger.specs.Executed.{HistoryStands, last_stamp_in};
-ghost use Rattle.crsm_ledger.specs.Sorted.{AreKeptFor, FitsKept, IsLogged, IsReleased, marked};
+ghost use Rattle.crsm_ledger.specs.Held.{HasNext};
+ghost use Rattle.crsm_ledger.specs.Sorted.{AreKeptFor, FitsKept, IsLogged, items_above, marked};
 ghost use Rattle.crsm_base.specs.Spelling.{FitsEntry};
 ghost use Rattle.crsm_spec.specs.Lists.{first_of};
 ghost use Rattle.crsm_spec.specs.Log.{with_entry, above};
 ghost use Rattle.crsm_spec.specs.Fits.{is_newest};
 
-use crate::history::History;
 use crate::kept::{Kept, LoggedItem};
 use crsm_base::{Entry, NoMemory, Stamp, is_same_stamp, stamp_precedes};
 use std::alloc::Global;
 use std::marker::Model;
-use std::mem;
 
 /// What is kept of each logged entry, by ascending stamp.
 #[derive(Drop)]
@@ -59,10 +57,11 @@ impl Logged {
         self.items.len()
     }
 
-    /// Returns what is kept of the entry with this index, or `None` if there are not that many.
-    pub fn get(&self, index: usize) -> Option<&LoggedItem>
-        ensures value { option_copied result ≡ slice_get self.now index }
-        ensures fit { IfSome result (λ item. FitsKept item.now.kept) }
+    /// Returns what is kept of the entry with this index.
+    pub fn at(&self, index: usize) -> &LoggedItem
+        requires { index < length self.now }
+        ensures value { slice_get self.now index ≡ Some result.now }
+        ensures fit { FitsKept result.now.kept }
     {
         item_at(self.items.as_slice(), index)
     }
@@ -90,6 +89,7 @@ impl Logged {
     /// there is none.
     pub fn first_above(&self, stamp: Option<Stamp>) -> usize
         ensures bound { result ≤ length self.now }
+        ensures items { drop result self.now ≡ items_above stamp self.now }
         ensures value { (done es : List Entry) → AreKeptFor done self.now es → drop result es ≡ above stamp es }
     {
         count_to(self.items.as_slice(), stamp)
@@ -97,7 +97,8 @@ impl Logged {
 
     /// Returns whether the first entry above `last` (at `None` the first of all) has this stamp.
     pub fn is_next(&self, last: Option<Stamp>, stamp: Stamp) -> bool
-        ensures { (done es : List Entry) → AreKeptFor done self.now es → result ≡ option_map_or (λ e. stamp_eq e.stamp stamp) (first_of (above last es)) false }
+        ensures value { (done es : List Entry) → AreKeptFor done self.now es → result ≡ option_map_or (λ e. stamp_eq e.stamp stamp) (first_of (above last es)) false }
+        ensures some { result ≡ true → HasNext last self.now }
     {
         has_stamp_at(self.items.as_slice(), self.first_above(last), stamp)
     }
@@ -109,43 +110,22 @@ impl Logged {
         is_newest_of(self.items.as_slice(), entry)
     }
 
-    /// Marks the first entry above `last` (at `None` the first of all) as the executed one with this index, and returns
-    /// what was kept of it, or `None` if there is none.
-    pub fn release(&mut self, last: Option<Stamp>, place: u64) -> Option<Kept>
-        ensures released { IsReleased last place result self.old self.new }
-        ensures fit { IfSome result FitsKept }
+    /// Keeps of the entry with this index only its place among the executed ones.
+    pub fn mark_executed(&mut self, index: usize, place: u64)
+        requires { index < length self.old }
+        ensures { (item : LoggedItem) → slice_get self.old index ≡ Some item → self.new ≡ set self.old index (marked item place) }
     {
-        let index = self.first_above(last);
-        if index < self.items.len() {
-            Some(mark_executed(&mut self.items, index, place))
-        } else {
-            None
-        }
-    }
-
-    /// Returns the first entry above the last executed one of the known epoch, which is to be executed next, and keeps
-    /// only its place. `None` if there is none. `NoMemory` if memory runs out; the entries are then unspecified.
-    pub fn release_next(&mut self, history: &History) -> Result<Option<Entry>, NoMemory>
-        ensures next { (x : ℕ) (done es : List Entry) → HistoryStands history.now x done → AreKeptFor done self.old es → IfOk result (λ r. r ≡ first_of (above (last_stamp_in x done) es)) }
-        ensures released { (x : ℕ) (done es : List Entry) → HistoryStands history.now x done → AreKeptFor done self.old es → IfOk result (λ r. IfSome r (λ e. AreKeptFor (done ++ e ∷ []) self.new es)) }
-        ensures fit { IfOk result (λ r. IfSome r FitsEntry) }
-    {
-        match self.release(history.last_stamp(), history.len()) {
-            Some(kept) => {
-                let entry = history.restore(kept)?;
-                Ok(entry)
-            }
-            None => Ok(None),
-        }
+        mark_at(&mut self.items, index, place);
     }
 }
 
-fn item_at(items: &[LoggedItem], index: usize) -> Option<&LoggedItem>
-    requires { IsLogged items.now }
-    ensures value { option_copied result ≡ slice_get items.now index }
-    ensures fit { IfSome result (λ item. FitsKept item.now.kept) }
+fn item_at(items: &[LoggedItem], index: usize) -> &LoggedItem
+    requires index { index < length items.now }
+    requires logged { IsLogged items.now }
+    ensures value { slice_get items.now index ≡ Some result.now }
+    ensures fit { FitsKept result.now.kept }
 {
-    items.get(index)
+    &items[index]
 }
 
 /// Inserts an item at an index, which is nearly always the end. `NoMemory` changes nothing.
@@ -163,13 +143,12 @@ fn put_at(items: &mut Vec<LoggedItem>, place: usize, item: LoggedItem) -> Result
     Ok(())
 }
 
-/// Marks the item with this index as the executed entry with index `place`, and returns what was kept of it.
-fn mark_executed(items: &mut Vec<LoggedItem>, index: usize, place: u64) -> Kept
+/// Marks the item with this index as the executed entry with index `place`.
+fn mark_at(items: &mut Vec<LoggedItem>, index: usize, place: u64)
     requires { index < length items.old.items }
-    ensures kept { (d : LoggedItem) → result ≡ (get_or items.old.items index d).kept }
-    ensures marked { (d : LoggedItem) → items.new.items ≡ set items.old.items index (marked (get_or items.old.items index d) place) }
+    ensures { (d : LoggedItem) → items.new.items ≡ set items.old.items index (marked (get_or items.old.items index d) place) }
 {
-    mem::replace(&mut items[index].kept, Kept::Executed { place })
+    items[index].kept = Kept::Executed { place };
 }
 
 /// Returns the number of items with no greater stamp. These are nearly always all but a few at the end: so the search
@@ -212,10 +191,11 @@ fn is_above_at(items: &[LoggedItem], place: usize, stamp: Stamp) -> bool
 }
 
 /// Returns the number of items with no greater stamp, at `None` 0.
-#[tactic(auto, unfolding(crsm_spec::specs::Log::above))]
+#[tactic(auto, unfolding(crsm_spec::specs::Log::above, crate::specs::Sorted::items_above))]
 fn count_to(items: &[LoggedItem], stamp: Option<Stamp>) -> usize
     requires { IsLogged items.now }
     ensures bound { result ≤ length items.now }
+    ensures items { drop result items.now ≡ items_above stamp items.now }
     ensures value { (done es : List Entry) → AreKeptFor done items.now es → drop result es ≡ above stamp es }
 {
     match stamp {
@@ -226,7 +206,8 @@ fn count_to(items: &[LoggedItem], stamp: Option<Stamp>) -> usize
 
 /// Returns whether there is an item at this index, and it has the stamp.
 fn has_stamp_at(items: &[LoggedItem], index: usize, stamp: Stamp) -> bool
-    ensures { result ≡ option_map_or (λ i. stamp_eq i.stamp stamp) (slice_get items.now index) false }
+    ensures value { result ≡ option_map_or (λ i. stamp_eq i.stamp stamp) (slice_get items.now index) false }
+    ensures within { result ≡ true → index < length items.now }
 {
     match items.get(index) {
         Some(item) => is_same_stamp(item.stamp, stamp),

@@ -114,7 +114,7 @@ impl Ledger {
         requires { FitsRec rec }
         ensures { TakesRecord entry rec self.old result self.new }
     {
-        if !self.fits(&rec) {
+        if !self.admits(&rec) {
             let why = kind_of(&rec);
             return Err(LedgerError::BadLog { entry, why });
         }

@@ -1,6 +1,6 @@
 //! Encodings of executed entries, joined in chunks, with an index.
 
-ghost use Rattle.std.specs.Prelude.{◌≡◌, ◌<◌, ◌≤◌, ◌^◌, true, [], ◌∷◌, ◌++◌, List, length, slice_get, Some, OnOk, IfOk};
+ghost use Rattle.std.specs.Prelude.{◌≡◌, ◌<◌, ◌≤◌, ◌^◌, true, [], ◌∷◌, ◌++◌, List, length, slice_get, Some, OnErr, OnOk, IfOk};
 ghost use Rattle.std.specs.List.{AllByRecursion};
 ghost use Rattle.std.specs.Option.{option_copied};
 ghost use Rattle.crsm_ledger.specs.Pieces.{HasOpenChunk, Keeps, IsSpelling, IsWithin, piece, pieces};
@@ -78,10 +78,12 @@ impl Spelt {
         range_at(self.chunks.as_slice(), self.places.as_slice(), index)
     }
 
-    /// Appends an encoding. `NoMemory` if memory runs out, as it does before there are 2^32 chunks.
+    /// Appends an encoding. `NoMemory` if memory runs out, as it does before there are 2^32 chunks; nothing has changed
+    /// then.
     pub fn push(&mut self, bytes: &[u8]) -> Result<(), NoMemory>
         requires { IsSpelling bytes.now }
-        ensures { OnOk result (self.new ≡ self.old ++ bytes.now ∷ []) }
+        ensures ok { OnOk result (self.new ≡ self.old ++ bytes.now ∷ []) }
+        ensures err { OnErr result (self.new ≡ self.old) }
     {
         make_room(self.alloc, &mut self.chunks, bytes.len())?;
         let place = append(&mut self.chunks, bytes)?;

@@ -4,7 +4,7 @@ ghost use Rattle.std.specs.Prelude.{◌≡◌, ℕ, ◌∷◌, [], IfOk};
 ghost use Rattle.crsm_base.specs.declared.Rec.{Rec};
 ghost use Rattle.crsm_base.specs.Records.{FitsRec};
 ghost use Rattle.crsm_base.specs.Spelling.{FitsBallot, FitsDecision};
-ghost use Rattle.crsm_ledger.specs.Ledger.{Keeps};
+ghost use Rattle.crsm_ledger.specs.Ledger.{CanFollow, Keeps};
 
 use crate::ledger::Ledger;
 use crsm_base::{Ballot, Decision, Line, Lines, NoMemory, Rec};
@@ -23,7 +23,8 @@ impl Ledger {
     /// Applies a record that may come next, and returns its lines. `NoMemory` if memory runs out; the fields are then
     /// unspecified.
     pub(crate) fn keep(&mut self, rec: &Rec) -> Result<Lines, NoMemory>
-        requires { FitsRec rec.now }
+        requires fits { FitsRec rec.now }
+        requires can { CanFollow self.old rec.now }
         ensures kept { Keeps self.old rec.now result self.new }
         ensures mark { self.new.is_spent ≡ self.old.is_spent }
     {

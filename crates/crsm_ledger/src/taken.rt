@@ -256,7 +256,7 @@ impl Ledger {
         ensures known { self.new.known ≡ self.old.known }
         ensures mark { self.new.is_spent ≡ self.old.is_spent }
     {
-        self.history.run_all(self.known.get().tail.as_slice())?;
+        self.held.run_all(self.known.get().tail.as_slice())?;
         Ok(())
     }
 

@@ -1,22 +1,27 @@
 -- A collected decision can be sent.
-use Rattle.std.proofs.Common.{◌≡◌, ℕ, ◌≤◌, Bool, true, false, refl, sym, subst, List, length, Option}
+use Rattle.std.proofs.Common.{◌≡◌, ℕ, ◌≤◌, Bool, true, false, refl, sym, subst, List, drop, length, Option}
 use Rattle.std.specs.Prelude.{IsTrue}
 use Rattle.std.specs.List.{AllByRecursion}
+use Rattle.std.proofs.Math.Logic.{∥∥₁_elim}
 use Rattle.crsm_base.specs.Members.{IsMembers}
-use Rattle.crsm_base.specs.Spelling.{FitsEntry, FitsOption, FitsDecision}
+use Rattle.crsm_base.specs.Spelling.{FitsEntries, FitsEntry, FitsOption, FitsDecision, Rises}
 use Rattle.crsm_spec.specs.Types.{Stamp, Entry, Decision}
 use Rattle.crsm_spec.specs.Choice.{when◌then◌otherwise◌}
 use Rattle.crsm_spec.specs.Log.{Log, known, start, logged, logged_in, last_stamp, above}
 use Rattle.crsm_spec.specs.Replica.{LogPage}
-use Rattle.crsm_spec.specs.Collect.{collected, size_of, is_within}
+use Rattle.crsm_spec.specs.Collect.{collected, first_page, size_of, is_within}
 use Rattle.crsm_spec.specs.Coordinate.{most_collected}
 use Rattle.crsm_fact_log.specs.Pages.{FitPages}
 use Rattle.crsm_fact_log.proofs.Lists.{all_at, all_from}
 use Rattle.crsm_fact_log.proofs.Sorted.{above_from}
 use Rattle.crsm_fact_log.proofs.Logged.{logged_epoch}
 use Rattle.crsm_fact_log.proofs.DecisionsFit.{collected_fits}
+use Rattle.crsm_fact_log.proofs.EntriesFit.{drop_rises, page_fits}
+use Rattle.crsm_ledger.specs.declared.ledger.Ledger.{Ledger}
+use Rattle.crsm_ledger.specs.Ledger.{HasLogged, HoldsLogged}
 use Rattle.crsm_suspend.specs.Collecting.{CanSend, FitsGot, got_decided}
 use Rattle.crsm_suspend.specs.declared.got.PageOutcome.TheVariants as PageOutcome
+use Rattle.crsm_suspend.proofs.Propositions.{entries_prop}
 
 -- ---- the decision
 
@@ -51,5 +56,14 @@ unfolding logged
 own_epoch log = all_from (λ e. e.epoch ≡ known log) (above (last_stamp log) (logged_in (known log) log))
     (λ z m. logged_epoch (known log) log z (above_from (last_stamp log) (logged_in (known log) log) z m).0)
 
-pub own_fit : (o : Option Stamp) (es : List Entry) → AllByRecursion FitsEntry es → AllByRecursion FitsEntry (above o es)
+-- the entries above a stamp have encodings
+own_fit : (o : Option Stamp) (es : List Entry) → AllByRecursion FitsEntry es → AllByRecursion FitsEntry (above o es)
 own_fit o es h = all_from FitsEntry (above o es) (λ z m. all_at FitsEntry es z h (above_from o es z m).0)
+
+-- ---- the page of a suspended replica
+
+-- the first page of the logged entries above a stamp has an encoding
+pub first_page_fits : (l : Ledger) (floor : Option Stamp) (k : ℕ) (page : List Entry) → ((es : List Entry) → HoldsLogged l es → drop k es ≡ above floor es) → ((es : List Entry) → HoldsLogged l es → page ≡ first_page (above floor es)) → ∥ HasLogged l ∥₁ → FitsEntries page
+first_page_fits l floor k page from is some = ∥∥₁_elim some (entries_prop page) (λ h.
+    let rise = subst (λ (es : List Entry). Rises es) (from h.entries h.holds) (drop_rises k h.entries h.rise) in
+    subst FitsEntries (sym (is h.entries h.holds)) (page_fits (above floor h.entries) (own_fit floor h.entries h.fit) rise))

@@ -1,5 +1,5 @@
 -- The page of a frozen log, entry by entry.
-use Rattle.std.proofs.Common.{arith, ◌≡◌, ◌∙◌, ℕ, zero, suc, ◌+◌, ◌<◌, ◌≤◌, Bool, true, false, refl, sym, ap, List, [], ◌∷◌, ◌++◌, cond, length, drop}
+use Rattle.std.proofs.Common.{arith, ◌≡◌, ◌∙◌, ℕ, suc, ◌+◌, ◌<◌, ◌≤◌, Bool, true, false, refl, sym, ap, List, [], ◌∷◌, ◌++◌, cond, length, drop}
 use Rattle.std.specs.Prelude.{◌-◌, ◌==◌, filter, nat_le, slice_get, Option, Some, None}
 use Rattle.std.proofs.lemmas.Bool.Decides.{nat_tests}
 use Rattle.std.proofs.lemmas.List.{append_assoc, append-nil, drop_more, length-append}
@@ -56,12 +56,6 @@ pub record IsPaging (page : List Entry) (room : ℕ) (rest all : List Entry) : T
 -- what is left of a list from a place on
 pub left : {A : Type 0} (xs : List A) (i : ℕ) (x : A) → slice_get xs i ≡ Some x → drop i xs ≡ x ∷ drop (i + 1) xs
 left xs i x at = drop_more xs i x (get_inside xs i x at) ∙ ap (λ y. y ∷ drop (i + 1) xs) (get_or_from_slice_get xs i x x at)
-
-pub nothing_left : {A : Type 0} (xs : List A) (i : ℕ) → slice_get xs i ≡ None → drop i xs ≡ []
-nothing_left [] zero at = refl
-nothing_left [] (suc i) at = refl
-nothing_left (y ∷ xs) zero at = cc
-nothing_left (y ∷ xs) (suc i) at = nothing_left xs i at
 
 pub begins : (es page : List Entry) → page ≡ [] → IsPaging page 65536 es es
 unfolding first_page

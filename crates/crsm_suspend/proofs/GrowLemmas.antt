@@ -1,5 +1,5 @@
 -- Reports with one more page.
-use Rattle.std.proofs.Common.{◌≡◌, ◌∙◌, ℕ, zero, suc, ◌+◌, ◌-◌, ◌<◌, Bool, true, false, cond, refl, sym, ap, subst, List, [], ◌∷◌, ◌++◌, length, map, take, set, get_or, length-set, get_or-set_same, get_or-set_other, Option, Some, None, arith, Result, Ok, Err, OnErr, OnOk}
+use Rattle.std.proofs.Common.{◌≡◌, ◌∙◌, ℕ, zero, suc, ◌+◌, ◌-◌, ◌<◌, Bool, true, false, cond, refl, sym, ap, subst, List, [], ◌∷◌, ◌++◌, length, map, take, set, get_or, length-set, get_or-set_same, get_or-set_other, Option, Some, None, arith, Result, Ok, Err, OnOk}
 use Rattle.std.specs.Prelude.{◌==◌, ◌||◌, if◌then◌else◌, filter, flat_map, option_map}
 use Rattle.std.specs.Option.{option_map_or}
 use Rattle.std.specs.List.{list_any, last_or, AllByRecursion}
@@ -163,10 +163,6 @@ pub undone : (reports : List Report) (k : ℕ) (p : Page) (old new back : Report
 undone reports k p old new back at is h b =
     let same : back ≡ old = λ i. record { head = h i; pages = (b ∙ ap (λ (r : Report). without_last r.pages) is ∙ taken_back old.pages p.entries) i } in
     set_again reports k new back ∙ ap (set reports k) (same ∙ at) ∙ set-get_or reports k old
-
-pub on_err : {T E : Type 0} (r : Result T E) (P : Type 0) → P → OnErr r P
-on_err (Ok x) P p = tt
-on_err (Err e) P p = p
 
 pub on_ok : {T E : Type 0} (r : Result T E) (P : Type 0) → P → OnOk r P
 on_ok (Ok x) P p = p

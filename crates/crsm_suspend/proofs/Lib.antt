@@ -1,3 +1,4 @@
+pub mod Propositions
 pub mod Lengths
 pub mod FrozenLemmas
 pub mod ReportLemmas

@@ -185,9 +185,6 @@ module _ (o : Option Stamp) (es : List Entry) (i : ℕ) (e : Entry) (l : i < len
   pub above_same : is_over o e.stamp ≡ false → above o (take (i + 1) es) ≡ above o (take i es)
   above_same h = above_at false h ∙ append-nil (above o (take i es))
 
-  pub above_with : is_over o e.stamp ≡ true → above o (take (i + 1) es) ≡ above o (take i es) ++ e ∷ []
-  above_with h = above_at true h
-
   pub above_more : (set : List Entry) → is_over o e.stamp ≡ true → fold with_new set (above o (take (i + 1) es)) ≡ with_new (fold with_new set (above o (take i es))) e
   above_more set h = ap (fold with_new set) (above_at true h) ∙ fold_push with_new set (above o (take i es)) e
 

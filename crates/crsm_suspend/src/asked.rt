@@ -5,11 +5,12 @@ ghost use Rattle.std.specs.List.{AllByRecursion};
 ghost use Rattle.std.specs.Option.{option_eq};
 ghost use Rattle.crsm_base.specs.Spelling.{FitsEntry};
 ghost use Rattle.crsm_base.specs.Order.{stamp_eq};
+ghost use Rattle.crsm_base.specs.declared.Entry.{Entry};
 ghost use Rattle.crsm_base.specs.declared.Rec.{Rec};
-ghost use Rattle.crsm_ledger.specs.Ledger.{LedgerStands};
+ghost use Rattle.crsm_ledger.specs.Ledger.{HoldsLogged, LedgerStands};
 ghost use Rattle.crsm_spec.specs.Collect.{own_page};
 ghost use Rattle.crsm_spec.specs.Controls.{are_above, is_page_of};
-ghost use Rattle.crsm_spec.specs.Log.{above, known, logged};
+ghost use Rattle.crsm_spec.specs.Log.{above, known};
 ghost use Rattle.crsm_suspend.specs.Collecting.{CanSend};
 ghost use Rattle.crsm_suspend.specs.Reports.{page_from};
 
@@ -41,14 +42,12 @@ pub fn own_page(alloc: Global, ledger: &Ledger) -> Result<Page, NoMemory>
 
 /// Returns copies of the logged entries above a stamp, of all at `None`. `NoMemory` if memory runs out.
 fn copies_above(alloc: Global, ledger: &Ledger, floor: Option<Stamp>) -> Result<Entries, NoMemory>
-    ensures value { (me n : ℕ) (log : List Rec) → LedgerStands me n ledger.now log → IfOk result (λ copies. copies ≡ above floor (logged log)) }
+    ensures value { (es : List Entry) → HoldsLogged ledger.now es → IfOk result (λ copies. copies ≡ above floor es) }
     ensures fit { IfOk result (AllByRecursion FitsEntry) }
 {
     let mut copies = Entries::new(alloc);
     for index in ledger.first_above(floor)..ledger.logged_len() {
-        let Some(entry) = ledger.logged_at(index)? else {
-            return Ok(copies);
-        };
+        let entry = ledger.logged_at(index)?;
         copies.push(entry)?;
     }
     Ok(copies)

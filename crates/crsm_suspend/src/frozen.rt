@@ -1,10 +1,13 @@
 //! The answers of a suspended replica.
 
 ghost use Rattle.std.specs.Prelude.{◌≡◌, ℕ, List, IfOk};
+ghost use Rattle.crsm_base.specs.declared.Entry.{Entry};
 ghost use Rattle.crsm_base.specs.declared.Rec.{Rec};
+ghost use Rattle.crsm_base.specs.Messages.{FitsControl};
+ghost use Rattle.crsm_base.specs.Spelling.{FitsEntries, FitsOption, FitsStamp};
 ghost use Rattle.crsm_spec.specs.Collect.{suspend_ok};
-ghost use Rattle.crsm_spec.specs.Log.{above, logged};
-ghost use Rattle.crsm_ledger.specs.Ledger.{LedgerStands};
+ghost use Rattle.crsm_spec.specs.Log.{above};
+ghost use Rattle.crsm_ledger.specs.Ledger.{HoldsLogged, LedgerStands};
 ghost use Rattle.crsm_suspend.specs.Pages.{asked_stamp, IsPageOf};
 
 use crate::sizes::entry_size;
@@ -15,7 +18,8 @@ use std::alloc::Global;
 /// Returns the answer to a replica that ends the known epoch: the first page of the logged entries above `after`, at
 /// `None` above the last executed entry. `NoMemory` if memory runs out.
 pub fn page_of(alloc: Global, ledger: &Ledger, after: Option<Stamp>) -> Result<Control, NoMemory>
-    ensures { (me n : ℕ) (log : List Rec) → LedgerStands me n ledger.now log → IfOk result (λ answer. answer ≡ suspend_ok log after) }
+    ensures value { (me n : ℕ) (log : List Rec) → LedgerStands me n ledger.now log → IfOk result (λ answer. answer ≡ suspend_ok log after) }
+    ensures fits { FitsOption FitsStamp after → IfOk result (λ c. FitsControl c) }
 {
     let last = ledger.last_stamp();
     let page = page_above(alloc, ledger, asked(after, last))?;
@@ -46,14 +50,13 @@ fn page_above(
     ledger: &Ledger,
     floor: Option<Stamp>,
 ) -> Result<(Entries, bool), NoMemory>
-    ensures { (me n : ℕ) (log : List Rec) → LedgerStands me n ledger.now log → IfOk result (λ page. IsPageOf (above floor (logged log)) page.0 page.1) }
+    ensures value { (es : List Entry) → HoldsLogged ledger.now es → IfOk result (λ page. IsPageOf (above floor es) page.0 page.1) }
+    ensures fits { IfOk result (λ page. FitsEntries page.0) }
 {
     let mut page = Entries::new(alloc);
     let mut room = MAX_PAGE_BYTES as u128;
     for index in ledger.first_above(floor)..ledger.logged_len() {
-        let Some(entry) = ledger.logged_at(index)? else {
-            return Ok((page, true));
-        };
+        let entry = ledger.logged_at(index)?;
         let size = entry_size(&entry);
         if size > room {
             return Ok((page, false));

@@ -7,6 +7,6 @@ use Rattle.crsm_ledger.proofs.ledger.Ledger.follow_tail.Goals as goal
 
 pub returns-clause-kept : goal.returns-clause-kept
 returns-clause-kept c = λ place me n log s fit.
-    let done = c.in_ok-run_all.ensures (known log) (executed log) s.executed in
+    let done = c.in_ok-run_all.ensures.executed (known log) (executed log) s.executed in
     adopts s place c.args.self.now.known.tail c.run_all.new.self fit
-    (subst (λ (es : List Entry). HistoryStands c.run_all.new.self (known log) (executed log ++ es)) (c.as_slice.ensures ∙ ap (λ (d : Decision). d.tail) c.get.ensures.value) done)
+    (subst (λ (es : List Entry). HistoryStands c.run_all.new.self.history (known log) (executed log ++ es)) (c.as_slice.ensures ∙ ap (λ (d : Decision). d.tail) c.get.ensures.value) done) c.run_all.ensures.logged

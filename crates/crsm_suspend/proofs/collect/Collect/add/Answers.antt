@@ -4,8 +4,9 @@ use Rattle.crsm_suspend.specs.Pages.{without_last}
 use Rattle.crsm_suspend.specs.Reports.{page_from, with_page, ReportsStand}
 use Rattle.crsm_suspend.specs.declared.collect.Collect.{Collect}
 use Rattle.crsm_suspend.specs.declared.report.Report.{Report}
+use Rattle.crsm_ledger.proofs.PiecesLemmas.{on_err}
 use Rattle.crsm_suspend.proofs.CollectLemmas.{goes_on}
-use Rattle.crsm_suspend.proofs.GrowLemmas.{reports_grow, undone, on_err, on_ok}
+use Rattle.crsm_suspend.proofs.GrowLemmas.{reports_grow, undone, on_ok}
 use Rattle.crsm_suspend.proofs.collect.Collect.add.Goals as goal
 
 pub returns-then-is_err-clause-err : goal.returns-then-is_err-clause-err
