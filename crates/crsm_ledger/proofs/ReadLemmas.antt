@@ -7,7 +7,7 @@ use Rattle.crsm_spec.specs.Log.{Log, known, start, spec, boots, live, suspended,
 use Rattle.crsm_ledger.specs.declared.ledger.Ledger.{Ledger}
 use Rattle.crsm_fact_log.proofs.Known.{known-spec}
 use Rattle.crsm_ledger.specs.Held.{HasEntries, Holds}
-use Rattle.crsm_ledger.specs.Ledger.{FieldsStand, HasLogged, HoldsLogged, LedgerStands, facts_of, known_decision}
+use Rattle.crsm_ledger.specs.Ledger.{FieldsStand, HasLogged, HoldsLogged, LedgerStands, epoch_of, facts_of, known_decision}
 use Rattle.crsm_ledger.proofs.ExecutedLemmas.{stands-spells}
 
 pub me-is : {me n : ℕ} {l : Ledger} {log : Log} → FieldsStand me n l log → l.me ≡ me
@@ -70,9 +70,11 @@ stands-logged {log = log} s = record { done = executed log; executed = stands-sp
 
 -- some logged entries are held
 pub has-logged : (l : Ledger) → ∥ HasEntries l.held.history.spelt l.held.history.epoch l.held.logged ∥₁ → ∥ HasLogged l ∥₁
+unfolding epoch_of
 has-logged l held = ∥∥₁_map held (λ h. record {
   entries = h.logged;
   holds = record { done = h.done; executed = h.executed; kept = h.kept };
   fit = h.fit;
+  of_epoch = h.of_epoch;
   rise = h.rise;
 })

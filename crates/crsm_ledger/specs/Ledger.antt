@@ -75,17 +75,22 @@ executed_count l = length l.held.history.spelt
 unfoldable pub logged_count : Ledger → ℕ
 logged_count l = length l.held.logged
 
+-- the number of the known epoch
+unfoldable pub epoch_of : Ledger → ℕ
+epoch_of l = l.held.history.epoch
+
 -- these are the logged entries of the known epoch that the ledger holds
 pub record HoldsLogged (l : Ledger) (es : List Entry) : Type 0 where
   pub done : List Entry
   pub executed : Spells l.held.history.spelt done
   pub kept : AreKeptFor done l.held.logged es
 
--- the ledger holds logged entries, which have encodings and rise
+-- the ledger holds logged entries, which have encodings, are of the known epoch and rise
 pub record HasLogged (l : Ledger) : Type 0 where
   pub entries : List Entry
   pub holds : HoldsLogged l entries
   pub fit : AllByRecursion FitsEntry entries
+  pub of_epoch : AllByRecursion (λ e. e.epoch ≡ epoch_of l) entries
   pub rise : Rises entries
 
 -- the ledger's entries let the record come next: it logs an entry that is newer, or there is one to execute

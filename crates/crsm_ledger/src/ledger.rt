@@ -9,8 +9,8 @@ ghost use Rattle.crsm_base.specs.Members.{IsMembers};
 ghost use Rattle.crsm_base.specs.Records.{FitsRec};
 ghost use Rattle.crsm_spec.specs.Fits.{fits, goes_on};
 ghost use Rattle.crsm_spec.specs.Lines.{lines_of};
-ghost use Rattle.crsm_ledger.specs.Ledger.{HasLogged, HoldsLogged, WhereStands, executed_count, kind, logged_count};
-ghost use Rattle.crsm_spec.specs.Log.{boots, start, live, suspended, executed, logged, above, unexecuted, last_stamp, promised, accepted, spec};
+ghost use Rattle.crsm_ledger.specs.Ledger.{HasLogged, HoldsLogged, WhereStands, epoch_of, executed_count, kind, logged_count};
+ghost use Rattle.crsm_spec.specs.Log.{boots, known, start, live, suspended, executed, logged, above, unexecuted, last_stamp, promised, accepted, spec};
 
 use crate::checks::stands_behind;
 use crate::error::LedgerError;
@@ -113,6 +113,15 @@ impl Ledger {
         ensures fits { 1 ≤ result.now.epoch → FitsDecision result.now }
     {
         self.known.get()
+    }
+
+    /// Returns the number of the known epoch.
+    #[tactic(auto, unfolding(crate::specs::Ledger::epoch_of))]
+    pub fn epoch(&self) -> u64
+        ensures value { WhereStands self.now (λ me n log. result ≡ known log) }
+        ensures is { result ≡ epoch_of self.now }
+    {
+        self.held.history.epoch()
     }
 
     /// Returns the number of entries that were executed when the known epoch began.

@@ -25,7 +25,7 @@ use Rattle.crsm_suspend.specs.declared.report.Report.{Report}
 use Rattle.crsm_base.specs.Spelling.{FitsEntry}
 use Rattle.crsm_base.specs.declared.control.Control.TheVariants.{SuspendOk}
 use Rattle.crsm_suspend.specs.Collecting.{CollectStands, CanSend, FitsGot, is_asked, got_decided, got_whole, got_more, got_page, got_from, page_in, got_of, pages_after}
-use Rattle.crsm_suspend.specs.declared.collect.Collect.{Collect}
+use Rattle.crsm_suspend.specs.declared.collection.Collection.{Collection}
 use Rattle.crsm_suspend.specs.declared.got.PageOutcome.TheVariants as PageOutcome
 use Rattle.crsm_suspend.proofs.WholeLemmas.{report_at}
 use Rattle.crsm_suspend.proofs.FitLemmas.{own_epoch}
@@ -259,7 +259,7 @@ own_whole me log = refl
 
 -- ---- a page more
 
-pub goes_on : (log : Log) (spec : List ℕ) (named : Option (List ℕ)) (members : List ℕ) (pages : List LogPage) (c : Collect) (reports : List Report) (p : LogPage) → CollectStands log spec named members pages c →
+pub goes_on : (log : Log) (spec : List ℕ) (named : Option (List ℕ)) (members : List ℕ) (pages : List LogPage) (c : Collection) (reports : List Report) (p : LogPage) → CollectStands log spec named members pages c →
     CanSend (known log) p → ReportsStand reports (pages ++ p ∷ []) → CollectStands log spec named members (pages ++ p ∷ []) (record c { reports = reports })
 goes_on log spec named members pages c reports p s t h = record {
   epoch = s.epoch;
@@ -277,7 +277,7 @@ goes_on log spec named members pages c reports p s t h = record {
 -- ---- for the crates above
 
 -- of the log a collection knows the epoch and its start alone
-pub same_collecting : (a b : Log) (spec : List ℕ) (named : Option (List ℕ)) (members : List ℕ) (pages : List LogPage) (c : Collect) → known a ≡ known b → start a ≡ start b →
+pub same_collecting : (a b : Log) (spec : List ℕ) (named : Option (List ℕ)) (members : List ℕ) (pages : List LogPage) (c : Collection) → known a ≡ known b → start a ≡ start b →
     CollectStands a spec named members pages c → CollectStands b spec named members pages c
 same_collecting a b spec named members pages c k l s = record {
   epoch = s.epoch ∙ k;

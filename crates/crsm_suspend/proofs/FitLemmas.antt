@@ -3,6 +3,7 @@ use Rattle.std.proofs.Common.{◌≡◌, ℕ, ◌≤◌, Bool, true, false, refl
 use Rattle.std.specs.Prelude.{IsTrue}
 use Rattle.std.specs.List.{AllByRecursion}
 use Rattle.std.proofs.Math.Logic.{∥∥₁_elim}
+use Rattle.std.proofs.Props.{props}
 use Rattle.crsm_base.specs.Members.{IsMembers}
 use Rattle.crsm_base.specs.Spelling.{FitsEntries, FitsEntry, FitsOption, FitsDecision, Rises}
 use Rattle.crsm_spec.specs.Types.{Stamp, Entry, Decision}
@@ -18,10 +19,10 @@ use Rattle.crsm_fact_log.proofs.Logged.{logged_epoch}
 use Rattle.crsm_fact_log.proofs.DecisionsFit.{collected_fits}
 use Rattle.crsm_fact_log.proofs.EntriesFit.{drop_rises, page_fits}
 use Rattle.crsm_ledger.specs.declared.ledger.Ledger.{Ledger}
-use Rattle.crsm_ledger.specs.Ledger.{HasLogged, HoldsLogged}
+use Rattle.crsm_ledger.specs.Ledger.{HasLogged, HoldsLogged, epoch_of}
 use Rattle.crsm_suspend.specs.Collecting.{CanSend, FitsGot, got_decided}
 use Rattle.crsm_suspend.specs.declared.got.PageOutcome.TheVariants as PageOutcome
-use Rattle.crsm_suspend.proofs.Propositions.{entries_prop}
+use Rattle.crsm_suspend.proofs.Propositions.{all_prop, entries_prop}
 
 -- ---- the decision
 
@@ -67,3 +68,9 @@ pub first_page_fits : (l : Ledger) (floor : Option Stamp) (k : ℕ) (page : List
 first_page_fits l floor k page from is some = ∥∥₁_elim some (entries_prop page) (λ h.
     let rise = subst (λ (es : List Entry). Rises es) (from h.entries h.holds) (drop_rises k h.entries h.rise) in
     subst FitsEntries (sym (is h.entries h.holds)) (page_fits (above floor h.entries) (own_fit floor h.entries h.fit) rise))
+
+-- the logged entries above a stamp are of the ledger's epoch
+pub of_the_epoch : (l : Ledger) (floor : Option Stamp) (copies : List Entry) → ((es : List Entry) → HoldsLogged l es → copies ≡ above floor es) → ∥ HasLogged l ∥₁ → AllByRecursion (λ e. e.epoch ≡ epoch_of l) copies
+of_the_epoch l floor copies is some = ∥∥₁_elim some (all_prop (λ (e : Entry). e.epoch ≡ epoch_of l) (λ e. hlevel props) copies) (λ h.
+    subst (λ (es : List Entry). AllByRecursion (λ e. e.epoch ≡ epoch_of l) es) (sym (is h.entries h.holds))
+    (all_from (λ e. e.epoch ≡ epoch_of l) (above floor h.entries) (λ z m. all_at (λ e. e.epoch ≡ epoch_of l) h.entries z h.of_epoch (above_from floor h.entries z m).0)))

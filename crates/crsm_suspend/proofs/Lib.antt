@@ -7,4 +7,5 @@ pub mod WholeLemmas
 pub mod CollectLemmas
 pub mod GrowLemmas
 pub mod FitLemmas
+pub mod SoundLemmas
 pub mod RuleLemmas

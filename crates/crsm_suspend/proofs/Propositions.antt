@@ -14,7 +14,7 @@ option_prop : {X : Type 0} (Fits : X → Type 0) → ((x : X) → IsProp (Fits x
 option_prop Fits h None = Unit-prop
 option_prop Fits h (Some x) = h x
 
-all_prop : {X : Type 0} (P : X → Type 0) → ((x : X) → IsProp (P x)) → (xs : List X) → IsProp (AllByRecursion P xs)
+pub all_prop : {X : Type 0} (P : X → Type 0) → ((x : X) → IsProp (P x)) → (xs : List X) → IsProp (AllByRecursion P xs)
 all_prop P h [] = Unit-prop
 all_prop P h (x ∷ xs) = ×_prop (h x) (all_prop P h xs)
 
@@ -59,7 +59,7 @@ op_prop (Cas k expected new) = hlevel (props, maybe_val_prop)
 command_prop : (c : Command) → IsProp (FitsCommand c)
 command_prop c = let op = op_prop c.op in hlevel (props, op)
 
-pub entry_prop : (e : Entry) → IsProp (FitsEntry e)
+entry_prop : (e : Entry) → IsProp (FitsEntry e)
 entry_prop e = let command = command_prop e.command in hlevel (props, command)
 
 pub entries_prop : (es : List Entry) → IsProp (FitsEntries es)

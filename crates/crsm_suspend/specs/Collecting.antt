@@ -13,7 +13,7 @@ use Rattle.crsm_spec.specs.Quorum.{has_majority}
 use Rattle.crsm_spec.specs.Controls.{is_page_of}
 use Rattle.crsm_spec.specs.Coordinate.{most_collected}
 use Rattle.crsm_suspend.specs.Reports.{ReportsStand}
-use Rattle.crsm_suspend.specs.declared.collect.Collect.{Collect}
+use Rattle.crsm_suspend.specs.declared.collection.Collection.{Collection}
 use Rattle.crsm_suspend.specs.declared.got.PageOutcome.{PageOutcome}
 use Rattle.crsm_suspend.specs.declared.got.PageOutcome.TheVariants.{Stranger, More, Kept, Complete, TooMany}
 use Rattle.crsm_ledger.specs.declared.ledger.Ledger.{Ledger}
@@ -28,7 +28,7 @@ pub record CanSend (epoch : ℕ) (p : LogPage) : Type 0 where
 -- The collection of a replica with this log has these pages, in the order of their arrival. `spec` are the replicas
 -- whose majority completes it; its decision names the counted replicas of the next epoch as `named`, and these members.
 -- Of the log it uses only the epoch and its start.
-pub record CollectStands (log : Log) (spec : List ℕ) (named : Option (List ℕ)) (members : List ℕ) (pages : List LogPage) (c : Collect) : Type 0 where
+pub record CollectStands (log : Log) (spec : List ℕ) (named : Option (List ℕ)) (members : List ℕ) (pages : List LogPage) (c : Collection) : Type 0 where
   pub epoch : c.epoch ≡ known log
   pub next : c.next ≡ known log + 1
   pub begins : c.start ≡ start log
@@ -39,6 +39,15 @@ pub record CollectStands (log : Log) (spec : List ℕ) (named : Option (List ℕ
   pub low_epoch : known log ≤ most_collected
   pub low_start : start log ≤ most_collected
   pub told : AllByRecursion (CanSend (known log)) pages
+
+-- Some pages are those of the collection, and all can be sent: so the collection stands for them, after some log.
+pub record IsSound (c : Collection) : Type 0 where
+  pub pages : List LogPage
+  pub next : c.next ≡ c.epoch + 1
+  pub reports : ReportsStand c.reports pages
+  pub low_epoch : c.epoch ≤ most_collected
+  pub low_start : c.start ≤ most_collected
+  pub told : AllByRecursion (CanSend c.epoch) pages
 
 -- ---- what a page brings
 
@@ -95,19 +104,19 @@ FitsGot (Complete d) = FitsDecision d
 FitsGot _ = Unit {0}
 
 -- for each log, Spec and pages that the collection stands for
-abbrev pub WhereCollecting : Collect → (Log → List ℕ → Option (List ℕ) → List ℕ → List LogPage → Type 0) → Type 0
+abbrev pub WhereCollecting : Collection → (Log → List ℕ → Option (List ℕ) → List ℕ → List LogPage → Type 0) → Type 0
 WhereCollecting c P =
     (log : Log) (spec : List ℕ) (named : Option (List ℕ)) (members : List ℕ) (pages : List LogPage) →
     CollectStands log spec named members pages c → P log spec named members pages
 
 -- the same where a ledger stands for the log
-abbrev pub WhereCollectingOver : ℕ → Ledger → Collect → (Log → List ℕ → Option (List ℕ) → List ℕ → List LogPage → Type 0) → Type 0
+abbrev pub WhereCollectingOver : ℕ → Ledger → Collection → (Log → List ℕ → Option (List ℕ) → List ℕ → List LogPage → Type 0) → Type 0
 WhereCollectingOver me ledger c P =
     (n : ℕ) (log : Log) (spec : List ℕ) (named : Option (List ℕ)) (members : List ℕ) (pages : List LogPage) →
     LedgerStands me n ledger log → CollectStands log spec named members pages c → P log spec named members pages
 
 -- the same where a replica of that epoch can send this page
-abbrev pub WhereCanSend : Collect → LogPage → (Log → List ℕ → Option (List ℕ) → List ℕ → List LogPage → Type 0) → Type 0
+abbrev pub WhereCanSend : Collection → LogPage → (Log → List ℕ → Option (List ℕ) → List ℕ → List LogPage → Type 0) → Type 0
 WhereCanSend c p P =
     (log : Log) (spec : List ℕ) (named : Option (List ℕ)) (members : List ℕ) (pages : List LogPage) →
     CollectStands log spec named members pages c → CanSend (known log) p → P log spec named members pages

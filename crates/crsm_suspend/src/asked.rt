@@ -7,7 +7,7 @@ ghost use Rattle.crsm_base.specs.Spelling.{FitsEntry};
 ghost use Rattle.crsm_base.specs.Order.{stamp_eq};
 ghost use Rattle.crsm_base.specs.declared.Entry.{Entry};
 ghost use Rattle.crsm_base.specs.declared.Rec.{Rec};
-ghost use Rattle.crsm_ledger.specs.Ledger.{HoldsLogged, LedgerStands};
+ghost use Rattle.crsm_ledger.specs.Ledger.{HoldsLogged, LedgerStands, epoch_of};
 ghost use Rattle.crsm_spec.specs.Collect.{own_page};
 ghost use Rattle.crsm_spec.specs.Controls.{are_above, is_page_of};
 ghost use Rattle.crsm_spec.specs.Log.{above, known};
@@ -28,6 +28,7 @@ const MOST_EXECUTED: u64 = u64::MAX - 4_096;
 pub fn own_page(alloc: Global, ledger: &Ledger) -> Result<Page, NoMemory>
     ensures page { (me n : ℕ) (log : List Rec) → LedgerStands me n ledger.now log → IfOk result (λ p. page_from me p ≡ own_page me log) }
     ensures told { (me n : ℕ) (log : List Rec) → LedgerStands me n ledger.now log → IfOk result (λ p. CanSend (known log) (page_from me p)) }
+    ensures can { (k : ℕ) → IfOk result (λ p. CanSend (epoch_of ledger.now) (page_from k p)) }
 {
     let executed = ledger.executed_len();
     let last = ledger.last_stamp();
@@ -44,6 +45,7 @@ pub fn own_page(alloc: Global, ledger: &Ledger) -> Result<Page, NoMemory>
 fn copies_above(alloc: Global, ledger: &Ledger, floor: Option<Stamp>) -> Result<Entries, NoMemory>
     ensures value { (es : List Entry) → HoldsLogged ledger.now es → IfOk result (λ copies. copies ≡ above floor es) }
     ensures fit { IfOk result (AllByRecursion FitsEntry) }
+    ensures epoch { IfOk result (AllByRecursion (λ e. e.epoch ≡ epoch_of ledger.now)) }
 {
     let mut copies = Entries::new(alloc);
     for index in ledger.first_above(floor)..ledger.logged_len() {

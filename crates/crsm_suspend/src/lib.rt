@@ -4,6 +4,7 @@
 mod asked;
 mod checks;
 mod collect;
+mod collection;
 mod frozen;
 mod got;
 mod laws;

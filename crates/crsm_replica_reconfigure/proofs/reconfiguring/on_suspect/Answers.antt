@@ -28,7 +28,7 @@ returns-then-not-fits c = λ x s.
     let got : c.in_ok-got.got ≡ own_got ms x =
     c.in_ok-got.ensures.got x.replica.n x.replica.log (spec_of x.replica) (named_spec x.replica ms) ms [] says begun.1
     ∙ ap (λ k. got_whole x.replica.log (spec_of x.replica) (named_spec x.replica ms) ms (own_page k x.replica.log ∷ [])) me in
-    let spelt = subst FitsGot got (c.in_ok-got.ensures.fits x.replica.n x.replica.log (spec_of x.replica) (named_spec x.replica ms) ms [] says begun.1) in
+    let spelt = subst FitsGot got c.in_ok-got.ensures.fits in
     let fit = subst (λ r. c.in_ok-fits.fits ≡ begins_fitting r (all_told ms x)) got
     (c.in_ok-fits.ensures x (all_told ms x) s (subst (λ r. CanBegin r x) (sym got) (suspect_can law ms x sound begun.0 spelt)) (sent_alike law ms x sound begun.0)) in
     is_ignored c.args.state.now x _ (suspect_fitting law ms x sound begun.0 ∙ sym fit ∙ c.if-not-fits.true) s
@@ -46,7 +46,7 @@ returns c = λ x s.
     let got : c.in_ok-got.got ≡ own_got ms x =
     c.in_ok-got.ensures.got x.replica.n x.replica.log spec named ms [] says begun.1
     ∙ ap (λ k. got_whole x.replica.log spec named ms (own_page k x.replica.log ∷ [])) me in
-    let spelt = subst FitsGot got (c.in_ok-got.ensures.fits x.replica.n x.replica.log spec named ms [] says begun.1) in
+    let spelt = subst FitsGot got c.in_ok-got.ensures.fits in
     let fit = subst (λ r. c.in_ok-fits.fits ≡ begins_fitting r (all_told ms x)) got
     (c.in_ok-fits.ensures x (all_told ms x) s (subst (λ r. CanBegin r x) (sym got) (suspect_can law ms x sound begun.0 spelt)) (sent_alike law ms x sound begun.0)) in
     let fitting : begins_fitting (own_got ms x) (all_told ms x) ≡ true = sym fit ∙ c.if-not-fits.false in

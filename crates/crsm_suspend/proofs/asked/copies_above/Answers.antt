@@ -4,6 +4,7 @@ use Rattle.std.proofs.lemmas.List.{append-nil, drop_all}
 use Rattle.crsm_base.specs.Spelling.{FitsEntry}
 use Rattle.crsm_spec.specs.Types.{Entry}
 use Rattle.crsm_fact_log.proofs.Lists.{all-push}
+use Rattle.crsm_suspend.proofs.FitLemmas.{of_the_epoch}
 use Rattle.crsm_suspend.proofs.FrozenLemmas.{left}
 use Rattle.crsm_suspend.proofs.asked.copies_above.Goals as goal
 
@@ -35,3 +36,6 @@ returns-clause-value c = λ all h.
     let copies = c.loop-index.copies in
     let none = drop_all c.loop-index.index all (omega (arith, c.loop-index-test.false, c.logged_len-index-end.ensures.holds all h)) in
     sym (append-nil copies) ∙ ap (λ (es : List Entry). copies ++ es) (sym none) ∙ c.loop-index.invariant.0 all h
+
+pub returns-clause-epoch : goal.returns-clause-epoch
+returns-clause-epoch c = of_the_epoch c.args.ledger.now c.args.floor c.loop-index.copies (returns-clause-value c) c.logged_len-index-end.ensures.some

@@ -1,7 +1,6 @@
-use Rattle.std.proofs.Common.{◌∙◌, ap}
-use Rattle.crsm_suspend.specs.declared.report.ReportHead.{ReportHead}
-use Rattle.crsm_suspend.proofs.CollectLemmas.{cursor_is}
+use Rattle.std.proofs.Common.{sym, subst}
+use Rattle.crsm_suspend.specs.Collecting.{CollectStands}
 use Rattle.crsm_suspend.proofs.collect.Collect.cursor.Goals as goal
 
 pub returns : goal.returns
-returns c = λ log spec named members pages s. ap (λ (h : ReportHead). h.cursor) (c.head.ensures log spec named members pages s) ∙ cursor_is pages c.args.k
+returns c = λ log spec named members pages s. c.cursor.ensures log spec named members pages (subst (CollectStands log spec named members pages) (sym c.self.view_is) s)

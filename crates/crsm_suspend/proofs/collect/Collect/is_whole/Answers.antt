@@ -1,7 +1,6 @@
-use Rattle.std.proofs.Common.{◌∙◌, ap}
-use Rattle.crsm_suspend.specs.declared.report.ReportHead.{ReportHead}
-use Rattle.crsm_suspend.proofs.CollectLemmas.{whole_is}
+use Rattle.std.proofs.Common.{sym, subst}
+use Rattle.crsm_suspend.specs.Collecting.{CollectStands}
 use Rattle.crsm_suspend.proofs.collect.Collect.is_whole.Goals as goal
 
 pub returns : goal.returns
-returns c = λ log spec named members pages s. ap (λ (h : ReportHead). h.is_whole) (c.head.ensures log spec named members pages s) ∙ whole_is pages c.args.k
+returns c = λ log spec named members pages s. c.is_whole.ensures log spec named members pages (subst (CollectStands log spec named members pages) (sym c.self.view_is) s)

@@ -2,7 +2,7 @@ use Rattle.std.proofs.Common.{◌≡◌, ◌∙◌, ap}
 use Rattle.crsm_spec.specs.Log.{start, above}
 use Rattle.crsm_spec.specs.Collect.{whole_ones, first_pages, all_entries, base_of, floor_of, union}
 use Rattle.crsm_suspend.proofs.CollectLemmas.{decision_is}
-use Rattle.crsm_suspend.proofs.collect.Collect.decision.Goals as goal
+use Rattle.crsm_suspend.proofs.collection.Collection.decision.Goals as goal
 
 pub returns-clause-value : goal.returns-clause-value
 returns-clause-value c = λ log spec named members pages s.

@@ -3,7 +3,7 @@ use Rattle.crsm_spec.specs.Lists.{has}
 use Rattle.crsm_suspend.specs.Reports.{page_from}
 use Rattle.crsm_suspend.specs.declared.report.ReportHead.{ReportHead}
 use Rattle.crsm_suspend.proofs.CollectLemmas.{member_is, asked_is, cursor_is, whole_is}
-use Rattle.crsm_suspend.proofs.collect.Collect.is_asked.Goals as goal
+use Rattle.crsm_suspend.proofs.collection.Collection.is_asked.Goals as goal
 
 pub returns : goal.returns
 returns c = λ log spec named members pages s.

@@ -2,12 +2,12 @@ use Rattle.std.proofs.Common.{◌≡◌, ◌∙◌, ◌<◌, ◌++◌, ◌∷◌
 use Rattle.std.proofs.lemmas.List.{get_or_default}
 use Rattle.crsm_suspend.specs.Pages.{without_last}
 use Rattle.crsm_suspend.specs.Reports.{page_from, with_page, ReportsStand}
-use Rattle.crsm_suspend.specs.declared.collect.Collect.{Collect}
+use Rattle.crsm_suspend.specs.declared.collection.Collection.{Collection}
 use Rattle.crsm_suspend.specs.declared.report.Report.{Report}
 use Rattle.crsm_ledger.proofs.PiecesLemmas.{on_err}
 use Rattle.crsm_suspend.proofs.CollectLemmas.{goes_on}
 use Rattle.crsm_suspend.proofs.GrowLemmas.{reports_grow, undone, on_ok}
-use Rattle.crsm_suspend.proofs.collect.Collect.add.Goals as goal
+use Rattle.crsm_suspend.proofs.collection.Collection.add.Goals as goal
 
 pub returns-then-is_err-clause-err : goal.returns-then-is_err-clause-err
 returns-then-is_err-clause-err c =
@@ -19,7 +19,7 @@ returns-then-is_err-clause-err c =
     let head : c.take_back.new.self.head ≡ c.index-self-index-2.result.head =
     c.take_back.ensures.head ∙ ap (λ (r : Report). r.head) (get_or_default c.args.self.now.reports c.args.from c.index-self-index.result c.index-self-index-2.result (omega (arith, long, below)) ∙ sym c.index-self-index-2.is) in
     let pages = c.take_back.ensures.pages ∙ ap (λ (r : Report). without_last r.pages) there in
-    on_err c.got-got.result _ (ap (λ (rs : List Report). (let x : Collect = record c.args.self.now { reports = rs } in x))
+    on_err c.got-got.result _ (ap (λ (rs : List Report). (let x : Collection = record c.args.self.now { reports = rs } in x))
     (undone c.args.self.now.reports c.args.from c.args.page c.index-self-index-2.result c.push.new.self c.take_back.new.self c.index-self-index-2.is new head pages))
 
 pub returns-else-is_err-clause-got : goal.returns-else-is_err-clause-got

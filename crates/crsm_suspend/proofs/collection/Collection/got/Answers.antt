@@ -6,7 +6,7 @@ use Rattle.crsm_suspend.specs.Collecting.{got_from, got_decided, got_more, FitsG
 use Rattle.crsm_suspend.specs.declared.report.ReportHead.{ReportHead}
 use Rattle.crsm_suspend.proofs.CollectLemmas.{cursor_is, whole_is, more_is, whole_got, kept_is, decided_is}
 use Rattle.crsm_suspend.proofs.FitLemmas.{fits_got}
-use Rattle.crsm_suspend.proofs.collect.Collect.got.Goals as goal
+use Rattle.crsm_suspend.proofs.collection.Collection.got.Goals as goal
 
 pub returns-then-not-head-clause-got : goal.returns-then-not-head-clause-got
 returns-then-not-head-clause-got c = λ log spec named members pages s.

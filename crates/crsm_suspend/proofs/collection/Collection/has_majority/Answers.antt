@@ -2,7 +2,7 @@ use Rattle.std.proofs.Common.{◌∙◌, ap, ℕ, List, length}
 use Rattle.crsm_spec.specs.Paxos.{majority}
 use Rattle.crsm_spec.specs.Collect.{whole_ones}
 use Rattle.crsm_suspend.proofs.CollectLemmas.{majority_is}
-use Rattle.crsm_suspend.proofs.collect.Collect.has_majority.Goals as goal
+use Rattle.crsm_suspend.proofs.collection.Collection.has_majority.Goals as goal
 
 pub returns : goal.returns
 returns c = λ log spec named members pages s.
