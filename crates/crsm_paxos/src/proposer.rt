@@ -1,10 +1,12 @@
 //! The proposer: a proposal in progress.
 
 ghost use Rattle.std.specs.Prelude.{◌≡◌, ◌+◌, ◌^◌, ◌<◌, ◌≤◌, Option, Some, None, IfOk, OnOk, OnErr};
+ghost use Rattle.crsm_base.specs.Messages.{FitsVote};
 ghost use Rattle.crsm_base.specs.Order.{ballot_lt};
+ghost use Rattle.crsm_base.specs.Spelling.{FitsDecision, FitsOption};
 ghost use Rattle.crsm_spec.specs.Paxos.{better_held, value_of_best};
 ghost use Rattle.crsm_spec.specs.Proposing.{start_proposing, after_p1b, after_p2b};
-ghost use Rattle.crsm_paxos.specs.Best.{found_of, is_before};
+ghost use Rattle.crsm_paxos.specs.Best.{FitsFound, found_of, is_before};
 ghost use Rattle.crsm_paxos.specs.Nexts.{next_of_p1b, next_of_p2b, next_of_no};
 
 use crsm_base::{Ballot, Decision, NoMemory, ballot_precedes};
@@ -33,7 +35,7 @@ pub(crate) struct Best {
 }
 
 /// A proposal in progress in one ballot of an instance. It counts each replica's promise and vote once. Its caller
-/// ensures that these replicas belong to the replica set whose majority counts.
+/// ensures that these replicas belong to the replica set whose majority counts. All that it may send has an encoding.
 #[derive(Drop)]
 pub struct Proposer {
     pub(crate) alloc: Global,
@@ -47,15 +49,15 @@ pub struct Proposer {
 }
 
 impl Model for Proposer {
-    ghost use Rattle.std.specs.Prelude.{◌≤◌};
     ghost use Rattle.crsm_spec.specs.Proposing.{Proposing};
     ghost use Rattle.crsm_base.specs.declared.decision.Decision.{Decision};
+    ghost use Rattle.crsm_paxos.specs.Best.{CanSend, found_of};
 
     ghost Value = { Proposing Decision };
 
-    ghost use Rattle.crsm_paxos.specs.Best.{found_of};
-
     ghost view = { λ p. record { ballot = p.ballot; own = p.own; size = p.size; received = p.received.items; best = found_of p.best; has_proposed = p.has_proposed; voters = p.voters.items } };
+
+    ghost invariant = { λ p. CanSend p.ballot p.own (found_of p.best) };
 }
 
 impl Proposer {
@@ -66,6 +68,7 @@ impl Proposer {
         requires me { me < 15 }
         requires one { 1 ≤ n }
         requires few { n ≤ 15 }
+        requires own { FitsDecision own }
         ensures { result ≡ start_proposing (record { round = above.round + 1; by = me }) own n }
     {
         let ballot = Ballot {
@@ -93,7 +96,8 @@ impl Proposer {
         b: Ballot,
         accepted: Option<(Ballot, Decision)>,
     ) -> Result<Next, NoMemory>
-        requires { from < 15 }
+        requires from { from < 15 }
+        requires accepted { FitsOption FitsVote accepted }
         ensures state { OnOk result (self.new ≡ after_p1b self.old from b accepted) }
         ensures next { IfOk result (λ next. next ≡ next_of_p1b self.old from b accepted) }
         ensures err { OnErr result (self.new ≡ self.old) }
@@ -159,7 +163,10 @@ fn is_first(x: &Best, y: &Best) -> bool
 
 /// Returns the one that takes precedence: the best before, or the accepted decision of a further answer.
 fn better(best: Option<Best>, replica: u32, accepted: Option<(Ballot, Decision)>) -> Option<Best>
-    ensures { found_of result ≡ better_held (found_of best) replica accepted }
+    requires best { FitsFound (found_of best) }
+    requires accepted { FitsOption FitsVote accepted }
+    ensures value { found_of result ≡ better_held (found_of best) replica accepted }
+    ensures fits { FitsFound (found_of result) }
 {
     let Some((ballot, value)) = accepted else {
         return best;
@@ -183,7 +190,10 @@ fn better(best: Option<Best>, replica: u32, accepted: Option<(Ballot, Decision)>
 
 /// Returns the value to propose: the best accepted one, or the proposer's own.
 pub(crate) fn value_of<'a>(own: &'a Decision, best: &'a Option<Best>) -> &'a Decision
-    ensures { result.now ≡ value_of_best own.now (found_of best.now) }
+    requires own { FitsDecision own.now }
+    requires best { FitsFound (found_of best.now) }
+    ensures value { result.now ≡ value_of_best own.now (found_of best.now) }
+    ensures fits { FitsDecision result.now }
 {
     match best {
         None => own,
@@ -198,7 +208,11 @@ pub(crate) fn value_with<'a>(
     replica: u32,
     accepted: &'a Option<(Ballot, Decision)>,
 ) -> &'a Decision
-    ensures { result.now ≡ value_of_best own.now (better_held (found_of best.now) replica accepted.now) }
+    requires own { FitsDecision own.now }
+    requires best { FitsFound (found_of best.now) }
+    requires accepted { FitsOption FitsVote accepted.now }
+    ensures value { result.now ≡ value_of_best own.now (better_held (found_of best.now) replica accepted.now) }
+    ensures fits { FitsDecision result.now }
 {
     let Some((ballot, value)) = accepted else {
         return value_of(own, best);

@@ -1,6 +1,8 @@
 //! Readers of a proposal in progress.
 
 ghost use Rattle.std.specs.Prelude.{◌≡◌, ◌+◌, nat_le, length};
+ghost use Rattle.crsm_base.specs.Messages.{FitsVote};
+ghost use Rattle.crsm_base.specs.Spelling.{FitsBallot, FitsDecision, FitsOption};
 ghost use Rattle.crsm_spec.specs.Paxos.{majority};
 ghost use Rattle.crsm_spec.specs.Proposing.{after_answer, is_received, value_proposed};
 
@@ -10,7 +12,8 @@ use crsm_base::{Ballot, Decision};
 impl Proposer {
     /// Returns the ballot of the proposal.
     pub fn ballot(&self) -> Ballot
-        ensures { result ≡ self.now.ballot }
+        ensures value { result ≡ self.now.ballot }
+        ensures fits { FitsBallot result }
     {
         self.ballot
     }
@@ -66,7 +69,8 @@ impl Proposer {
 
     /// Returns the value to propose after the promises counted.
     pub fn value(&self) -> &Decision
-        ensures { result.now ≡ value_proposed self.now }
+        ensures value { result.now ≡ value_proposed self.now }
+        ensures fits { FitsDecision result.now }
     {
         value_of(&self.own, &self.best)
     }
@@ -77,14 +81,17 @@ impl Proposer {
         from: u32,
         accepted: &'a Option<(Ballot, Decision)>,
     ) -> &'a Decision
-        ensures { result.now ≡ value_proposed (after_answer self.now from accepted.now) }
+        requires { FitsOption FitsVote accepted.now }
+        ensures value { result.now ≡ value_proposed (after_answer self.now from accepted.now) }
+        ensures fits { FitsDecision result.now }
     {
         value_with(&self.own, &self.best, from, accepted)
     }
 
     /// Ends the proposal and returns its own decision.
     pub fn into_own(self) -> Decision
-        ensures { result ≡ self.own }
+        ensures value { result ≡ self.own }
+        ensures fits { FitsDecision result }
     {
         self.own
     }
