@@ -25,7 +25,7 @@ returns c me n log s =
     let met : c.loop-before.before ≡ c.args.place = omega (arith, most, end) in
     record {
       entry = c.in_ok-entry-2.entry;
-      there = c.in_ok-entry-2.ensures me n log s;
+      there = c.in_ok-entry-2.ensures.value me n log s;
       is = ap (λ r. r.1) c.in_ok-answer.ensures.done
           ∙ ap (λ rows. (apply rows c.in_ok-entry-2.entry.command).1) (c.loop-before.invariant me n log s)
           ∙ ap (λ (k : ℕ). (apply (after (take k (executed log))) c.in_ok-entry-2.entry.command).1) met;
