@@ -6,16 +6,16 @@ use Rattle.std.proofs.lemmas.List.{append-nil, append_assoc}
 use Rattle.std.proofs.lemmas.List.Elements.{recursion_from_All}
 use Rattle.crsm_base.specs.Limits.{most_again}
 use Rattle.crsm_base.specs.Messages.{FitsPayload}
-use Rattle.crsm_base.specs.Records.{FitsRec}
 use Rattle.crsm_fact_log.proofs.Lists.{all-append, all-drop, all-take}
+use Rattle.crsm_fact_log.proofs.LogsFit.{known_small}
 use Rattle.crsm_replica_output.specs.declared.output.Output.{Output}
 use Rattle.crsm_replica_output.specs.Made.{OutputStands, made_of}
 use Rattle.crsm_replica_epoch.specs.declared.state.EpochState.{EpochState}
 use Rattle.crsm_replica_epoch.specs.EpochState.{EpochStands}
 use Rattle.crsm_replica_epoch.proofs.Kept.{few_sent}
 use Rattle.crsm_replica_epoch.proofs.Times.{issued_above}
-use Rattle.crsm_spec.specs.Types.{Rec, InEpoch, Datagram}
-use Rattle.crsm_spec.specs.Log.{Log, known, decision}
+use Rattle.crsm_spec.specs.Types.{InEpoch, Datagram}
+use Rattle.crsm_spec.specs.Log.{known}
 use Rattle.crsm_spec.specs.Replica.{Replica, members_of, other_members, last_issued, frames_to, acked_by, unacked}
 use Rattle.crsm_spec.specs.Draft.{Draft, would, send, next_frame, push_to, push_to_members, issued_at}
 use Rattle.crsm_spec.specs.Frames.{again_frame, again_to}
@@ -24,20 +24,6 @@ use Rattle.crsm_replica.specs.Again.{frame_again}
 use Rattle.crsm_replica.specs.Sound.{FitsSend, FitsPushed}
 use Rattle.crsm_replica.specs.Replica.{StandsInside}
 use Rattle.crsm_replica.proofs.Rebuilt.{sent, ran}
-
--- the known epoch has an encoding
-pub known-fits : (log : Log) → AllByRecursion FitsRec log → known log < 2 ^ 64
-unfolding known decision
-known-fits [] fit = omega arith
-known-fits (Rec.Boot m k ∷ log) fit = known-fits log fit.1
-known-fits (Rec.Prepare e ∷ log) fit = known-fits log fit.1
-known-fits (Rec.Commit t ∷ log) fit = known-fits log fit.1
-known-fits (Rec.Adopt place es ∷ log) fit = known-fits log fit.1
-known-fits (Rec.Suspend y ∷ log) fit = known-fits log fit.1
-known-fits (Rec.Promise i b ∷ log) fit = known-fits log fit.1
-known-fits (Rec.Accept i b a ∷ log) fit = known-fits log fit.1
-known-fits (Rec.Decide d ∷ log) fit = fit.0.epoch
-known-fits (Rec.Enter y ∷ log) fit = known-fits log fit.1
 
 -- ---- a payload is pushed
 
@@ -76,7 +62,7 @@ pushed state x reading time payload output epoch_state ks s fit is small same be
     output x.excess (x.sends ++ map (next_frame r payload) (other_members r)) x.replies first
     (subst (λ js. OutputStands output (record (made_of x) { sends = x.sends ++ map (next_frame r payload) js })) same holds)
     (all-append FitsSend x.sends (map (next_frame r payload) (other_members r)) s.sound.sends
-    (next-fit r payload fit s.sound.number (known-fits r.log s.sound.spelt) few (other_members r) all)) s.sound.replies
+    (next-fit r payload fit s.sound.number (known_small r.log s.sound.spelt) few (other_members r) all)) s.sound.replies
 
 -- ---- frames go again
 
@@ -124,7 +110,7 @@ again state x k output fs s below small same holds =
     subst (StandsInside (record state { output = output })) (sym (again-all k x fs) ∙ ap (fold (again_frame k) x) same)
     (sent state x output x.excess (x.sends ++ map (frame_again r.me (known r.log) k) fs) x.replies s holds
     (all-append FitsSend x.sends (map (frame_again r.me (known r.log) k) fs) s.sound.sends
-    (again-fit r.me (known r.log) k s.sound.number (known-fits r.log s.sound.spelt) below fs fit)) s.sound.replies)
+    (again-fit r.me (known r.log) k s.sound.number (known_small r.log s.sound.spelt) below fs fit)) s.sound.replies)
 
 none-kept : (n : ℕ) → drop {A = ℕ × InEpoch} n [] ≡ []
 none-kept zero = refl

@@ -8,3 +8,4 @@ mod Booting
 mod SendingControls
 mod Founding
 mod Replying
+mod StoreFits

@@ -1,9 +1,11 @@
 -- The replies to a waiting client.
-use Rattle.std.proofs.Common.{◌≡◌, ℕ, true, false, List, [], ◌∷◌, ◌++◌, refl, sym, ap, ◌∙◌, map, take, append-nil, append_assoc}
+use Rattle.std.proofs.Common.{◌≡◌, ℕ, true, false, List, [], ◌∷◌, ◌++◌, refl, sym, ap, subst, ◌∙◌, map, take, append-nil, append_assoc}
 use Rattle.std.specs.Prelude.{Option, Some, None}
 use Rattle.std.specs.List.{AllByRecursion}
 use Rattle.std.specs.Option.{option_map}
+use Rattle.crsm_base.specs.Spelling.{FitsAnswer, FitsEntry}
 use Rattle.crsm_base.specs.Store.{answer_after}
+use Rattle.crsm_fact_log.proofs.Lists.{all-take}
 use Rattle.crsm_replica_results.specs.Answering.{answered}
 use Rattle.crsm_spec.specs.Types.{Entry, Answer}
 use Rattle.crsm_spec.specs.Choice.{when◌then◌otherwise◌}
@@ -14,6 +16,7 @@ use Rattle.crsm_replica.specs.declared.state.ReplicaState.{ReplicaState}
 use Rattle.crsm_replica.specs.declared.state.Waiting.{Waiting as WaitingInMemory}
 use Rattle.crsm_replica.specs.Sound.{FitsWaiting}
 use Rattle.crsm_replica.specs.Replica.{ReplicaStands, on_paper}
+use Rattle.crsm_replica.proofs.StoreFits.{answer-fits}
 use Rattle.crsm_spec.specs.Clients.{find_executed, answer_found, answer_each, is_dropped, reply_ok, reply_dropped, replies}
 
 abbrev placed : List Entry → ℕ × Entry → ℕ × Answer
@@ -39,6 +42,17 @@ found-none w x e = go (find_executed (executed x.replica.log) w.entry) e
     go : (o : Option (ℕ × Entry)) → ◌≡◌ {A = Option (ℕ × Answer)} None (option_map (placed (executed x.replica.log)) o) → answer_found w o x ≡ answer_found w None x
     go None e = refl
     go (Some p) e = absurd (cc)
+
+-- and then its answer has an encoding
+pub answered-fits : (done : List Entry) (e : Entry) (place : ℕ) (a : Answer) → AllByRecursion FitsEntry done → Some (place, a) ≡ answered done e → FitsAnswer a
+unfolding answered
+answered-fits done e place a fit is = go (find_executed done e) is
+  where
+    go : (o : Option (ℕ × Entry)) → ◌≡◌ {A = Option (ℕ × Answer)} (Some (place, a)) (option_map (placed done) o) → FitsAnswer a
+    go None is = absurd (cc)
+    go (Some p) is =
+        let same : ◌≡◌ {A = ℕ × Answer} (place, a) (placed done p) = cc in
+        subst (λ (q : ℕ × Answer). FitsAnswer q.1) (sym same) (answer-fits (take p.0 done) p.1 (all-take FitsEntry done p.0 fit))
 
 pub none-dropped : (w : Waiting) (x : Draft) → is_dropped x.replica w.entry ≡ true → answer_found w None x ≡ reply_dropped w x
 unfolding answer_found when◌then◌otherwise◌

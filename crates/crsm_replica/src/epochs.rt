@@ -1,38 +1,33 @@
 //! The changes of epochs, and the coordinator of the next one.
 
-ghost use Rattle.std.specs.Prelude.{◌≡◌, ℕ, IfOk};
+ghost use Rattle.std.specs.Prelude.{ℕ};
 ghost use Rattle.crsm_base.specs.Spelling.{FitsDecision};
 ghost use Rattle.crsm_ledger.specs.Ledger.{LedgerStands};
 ghost use Rattle.crsm_replica_coordinator.specs.Coordinator.{CoordinatorStands};
 ghost use Rattle.crsm_spec.specs.Log.{Log, decision};
-ghost use Rattle.crsm_spec.specs.Types.{Rec};
 ghost use Rattle.crsm_spec.specs.Replica.{Coordinator};
 ghost use Rattle.crsm_spec.specs.Draft.{Draft, noting};
 ghost use Rattle.crsm_spec.specs.Coordinate.{enter};
-ghost use Rattle.crsm_spec.specs.Step.{if_fitting};
-ghost use Rattle.crsm_replica.specs.Replica.{ReplicaStands, AwaitsBoot, Makes, learnt, WhereStands};
+ghost use Rattle.crsm_replica.specs.Replica.{ReplicaStands, AwaitsBoot, Makes, MakesFitting, learnt, WhereStands};
 
 use crate::records::put;
 use crate::state::ReplicaState;
-use crsm_base::{Decision, NoMemory, Rec, never};
+use crsm_base::{Decision, NoMemory, Rec};
 use crsm_ledger::Ledger;
 use crsm_replica_coordinator::Coordinator as CoordinatorInMemory;
 use crsm_replica_epoch::EpochState;
-use crsm_wire::is_rec_spelt;
 
 impl ReplicaState {
     #[tactic(auto, unfolding(crate::specs::Replica::ReplicaStands))]
     /// Learns a decision, which ends the old epoch and any coordinator. `false` if its record does not fit, `NoMemory`
     /// if memory runs out; with `false` the state is unchanged.
     pub fn learn_decision(&mut self, decision: &Decision) -> Result<bool, NoMemory>
-        ensures { IfOk result (λ fit. WhereStands self.old (λ x. FitsDecision decision.now → (fit ≡ (learnt decision.now x).fitting) × ReplicaStands self.new (if_fitting x (learnt decision.now x)))) }
+        requires { FitsDecision decision.now }
+        ensures { MakesFitting (learnt decision.now) self.old result self.new }
     {
         let rec = Rec::Decide {
             decision: decision.copy(self.alloc)?,
         };
-        if !is_rec_spelt(&rec) {
-            return Err(never());
-        }
         let fit = put(&mut self.ledger, &mut self.output, rec)?;
         if !fit {
             return Ok(false);

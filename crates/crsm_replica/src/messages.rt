@@ -8,8 +8,9 @@ ghost use Rattle.crsm_spec.specs.Draft.{Draft, send_control, send_to_each, send_
 ghost use Rattle.crsm_replica.specs.Replica.{ReplicaStands, Makes, WhereStands};
 
 use crate::state::ReplicaState;
-use crsm_base::{Control, NoMemory};
+use crsm_base::{Control, NoMemory, never};
 use crsm_replica_output::{parts_are_spelt, send_parts, spell, spell_decision};
+use crsm_wire::is_control_spelt;
 
 impl ReplicaState {
     #[tactic(auto, unfolding(crate::specs::Replica::ReplicaStands))]
@@ -41,18 +42,33 @@ impl ReplicaState {
     /// Sends replica `k` a control message, unless this boot has used all message numbers. `NoMemory` if memory runs
     /// out.
     pub fn send_control(&mut self, k: u32, control: &Control) -> Result<(), NoMemory>
-        requires { k < 15 }
-        ensures { IfOk result (λ _. WhereStands self.old (λ x. FitsControl control.now → ReplicaStands self.new (send_control control.now x k))) }
+        requires to { k < 15 }
+        requires spelt { FitsControl control.now }
+        ensures { Makes (λ x. send_control control.now x k) self.old result self.new }
     {
         let spelling = spell(self.alloc, control)?;
         self.send_spelt(k, spelling.as_slice())?;
         Ok(())
     }
 
+    /// Sends replica `k` a control message that has an encoding because of what the state stands for, unless this boot
+    /// has used all message numbers. `NoMemory` if memory runs out.
+    pub fn send_known(&mut self, k: u32, control: &Control) -> Result<(), NoMemory>
+        requires { k < 15 }
+        ensures { IfOk result (λ _. WhereStands self.old (λ x. FitsControl control.now → ReplicaStands self.new (send_control control.now x k))) }
+    {
+        if !is_control_spelt(control) {
+            return Err(never());
+        }
+        self.send_control(k, control)?;
+        Ok(())
+    }
+
     /// Sends a control message to each of these replicas; it is encoded once. `NoMemory` if memory runs out.
     pub fn send_to_each(&mut self, replicas: &[u32], control: &Control) -> Result<(), NoMemory>
-        requires { All (λ k. k < 15) replicas.now }
-        ensures { IfOk result (λ _. WhereStands self.old (λ x. FitsControl control.now → ReplicaStands self.new (send_to_each replicas.now control.now x))) }
+        requires to { All (λ k. k < 15) replicas.now }
+        requires spelt { FitsControl control.now }
+        ensures { Makes (send_to_each replicas.now control.now) self.old result self.new }
     {
         if replicas.is_empty() {
             return Ok(());
@@ -67,7 +83,8 @@ impl ReplicaState {
     #[tactic(auto, unfolding(crate::specs::Replica::ReplicaStands))]
     /// Sends a control message to each other counted replica. `NoMemory` if memory runs out.
     pub fn send_to_all(&mut self, control: &Control) -> Result<(), NoMemory>
-        ensures { IfOk result (λ _. WhereStands self.old (λ x. FitsControl control.now → ReplicaStands self.new (send_to_all control.now x))) }
+        requires { FitsControl control.now }
+        ensures { Makes (send_to_all control.now) self.old result self.new }
     {
         let others = self.others()?;
         self.send_to_each(&others, control)?;

@@ -2,7 +2,8 @@
 
 ghost use Rattle.std.specs.Prelude.{◌≡◌, ◌≢◌, ◌<◌, true, length, All, IfOk, Some};
 ghost use Rattle.crsm_base.specs.Order.{ballot_eq};
-ghost use Rattle.crsm_base.specs.Spelling.{FitsOption, FitsStamp};
+ghost use Rattle.crsm_base.specs.Messages.{FitsVote};
+ghost use Rattle.crsm_base.specs.Spelling.{FitsBallot, FitsDecision, FitsOption, FitsStamp};
 ghost use Rattle.std.specs.Option.{option_map_or};
 ghost use Rattle.crsm_spec.specs.Lists.{has, first_of};
 ghost use Rattle.crsm_spec.specs.Log.{known, start, executed, unexecuted, decision, live, suspended, active, promised, accepted};
@@ -93,7 +94,8 @@ impl ReplicaState {
     #[tactic(auto, unfolding(crate::specs::Replica::ReplicaStands))]
     /// Returns the ballot that is promised for the next decision, or round 0 of replica 0 if none is.
     pub fn promised(&self) -> Ballot
-        ensures { WhereStands self.now (λ x. result ≡ promised x.replica.log) }
+        ensures value { WhereStands self.now (λ x. result ≡ promised x.replica.log) }
+        ensures fits { FitsBallot result }
     {
         self.ledger.promised()
     }
@@ -112,7 +114,8 @@ impl ReplicaState {
     #[tactic(auto, unfolding(crate::specs::Replica::ReplicaStands))]
     /// Returns the accepted decision with its ballot, or `None` if none was accepted. `NoMemory` if memory runs out.
     pub fn accepted(&self) -> Result<Option<(Ballot, Decision)>, NoMemory>
-        ensures { WhereStands self.now (λ x. IfOk result (λ r. r ≡ accepted x.replica.log)) }
+        ensures value { WhereStands self.now (λ x. IfOk result (λ r. r ≡ accepted x.replica.log)) }
+        ensures fits { IfOk result (FitsOption FitsVote) }
     {
         match self.ledger.accepted() {
             Some((ballot, decision)) => Ok(Some((*ballot, decision.copy(self.alloc)?))),
@@ -124,7 +127,8 @@ impl ReplicaState {
     /// Returns the decision of the known epoch, or `None` in the first epoch, which has none. `NoMemory` if memory runs
     /// out.
     pub fn decision(&self) -> Result<Option<Decision>, NoMemory>
-        ensures { WhereStands self.now (λ x. IfOk result (λ r. r ≡ decision x.replica.log)) }
+        ensures value { WhereStands self.now (λ x. IfOk result (λ r. r ≡ decision x.replica.log)) }
+        ensures fits { IfOk result (FitsOption FitsDecision) }
     {
         let known = self.ledger.known();
         if known.epoch == 0 {

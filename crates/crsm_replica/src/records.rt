@@ -5,16 +5,14 @@ ghost use Rattle.crsm_base.specs.Records.{FitsRec};
 ghost use Rattle.crsm_ledger.specs.Ledger.{LedgerStands};
 ghost use Rattle.crsm_spec.specs.Draft.{keep};
 ghost use Rattle.crsm_spec.specs.Fits.{fits};
-ghost use Rattle.crsm_spec.specs.Step.{if_fitting};
 ghost use Rattle.crsm_spec.specs.Types.{Rec};
 ghost use Rattle.crsm_replica.specs.Recorded.{Applied, Recorded, WhereBothStand};
-ghost use Rattle.crsm_replica.specs.Replica.{ReplicaStands, MakesFitting, IsPlain, WhereStands};
+ghost use Rattle.crsm_replica.specs.Replica.{ReplicaStands, MakesFitting, IsPlain};
 
 use crate::state::ReplicaState;
-use crsm_base::{Lines, NoMemory, Rec, never};
+use crsm_base::{Lines, NoMemory, Rec};
 use crsm_ledger::{Ledger, LedgerError};
 use crsm_replica_output::Output;
-use crsm_wire::is_rec_spelt;
 
 impl ReplicaState {
     #[tactic(auto, unfolding(crate::specs::Replica::ReplicaStands))]
@@ -32,19 +30,6 @@ impl ReplicaState {
         self.epoch_state.keep(&rec, last)?;
         self.output.keep(rec, lines)?;
         Ok(true)
-    }
-
-    /// Applies a record that has an encoding because of what the state stands for. `false` if it does not fit,
-    /// `NoMemory` if memory runs out; with `false` the state is unchanged.
-    pub fn keep_known(&mut self, rec: Rec) -> Result<bool, NoMemory>
-        requires { IsPlain rec }
-        ensures { IfOk result (λ fit. WhereStands self.old (λ x. FitsRec rec → (fit ≡ (keep rec x).fitting) × ReplicaStands self.new (if_fitting x (keep rec x)))) }
-    {
-        if !is_rec_spelt(&rec) {
-            return Err(never());
-        }
-        let fit = self.keep(rec)?;
-        Ok(fit)
     }
 }
 

@@ -2,7 +2,7 @@
 
 ghost use Rattle.std.specs.Prelude.{◌≡◌, ◌<◌, ◌^◌, false, IsTrue, None, IfOk};
 ghost use Rattle.crsm_replica_results.specs.Answering.{answered};
-ghost use Rattle.crsm_base.specs.Spelling.{FitsAnswer, FitsVal};
+ghost use Rattle.crsm_base.specs.Spelling.{FitsAnswer};
 ghost use Rattle.crsm_spec.specs.Log.{executed};
 ghost use Rattle.crsm_spec.specs.Draft.{Draft};
 ghost use Rattle.crsm_spec.specs.Clients.{find_executed, answer_found, is_dropped, reply_ok, reply_dropped, replies};
@@ -10,7 +10,7 @@ ghost use Rattle.crsm_replica.specs.Sound.{FitsWaiting};
 ghost use Rattle.crsm_replica.specs.Replica.{ReplicaStands, Makes, on_paper, WhereStands};
 
 use crate::state::{ReplicaState, Waiting};
-use crsm_base::{Answer, Entry, Line, MAX_VAL_BYTES, NoMemory, Outcome, Refusal, Val, never};
+use crsm_base::{Answer, Entry, Line, NoMemory, Outcome, Refusal};
 use crsm_replica_output::Reply;
 use crsm_replica_results::{answer_to, executions, has_dropped, has_no_answer};
 use std::mem;
@@ -96,11 +96,8 @@ impl ReplicaState {
 
     /// Sends a client the answer to the executed entry with this index.
     fn reply_ok(&mut self, client: &Waiting, place: u64, answer: Answer) -> Result<(), NoMemory>
-        ensures { IfOk result (λ _. WhereStands self.old (λ x. FitsWaiting (on_paper client.now) → ReplicaStands self.new (reply_ok (on_paper client.now) place answer x))) }
+        ensures { IfOk result (λ _. WhereStands self.old (λ x. FitsWaiting (on_paper client.now) → FitsAnswer answer → ReplicaStands self.new (reply_ok (on_paper client.now) place answer x))) }
     {
-        if !is_answer_spelt(&answer) {
-            return Err(never());
-        }
         let said = answer.copy(self.alloc)?;
         self.output.reply(Reply {
             address: client.address,
@@ -136,31 +133,5 @@ impl ReplicaState {
             },
         })?;
         Ok(())
-    }
-}
-
-/// Returns whether the value is within its length limit.
-fn is_val_spelt(val: &Val) -> bool
-    ensures { IsTrue result → FitsVal val.now }
-{
-    val.as_slice().len() <= MAX_VAL_BYTES as usize
-}
-
-/// Returns whether a number of the store has an encoding, which each has.
-fn is_number_spelt(_number: u64) -> bool
-    ensures { IsTrue result → _number < 2 ^ 64 }
-{
-    true
-}
-
-/// Returns whether the answer has an encoding, which each answer of the store has.
-fn is_answer_spelt(answer: &Answer) -> bool
-    ensures { IsTrue result → FitsAnswer answer.now }
-{
-    match answer {
-        Answer::Found(val) => is_val_spelt(val),
-        Answer::Differs(Some(val)) => is_val_spelt(val),
-        Answer::Stale(number) => is_number_spelt(*number),
-        Answer::Missing | Answer::Done | Answer::Differs(None) | Answer::NoRoom => true,
     }
 }

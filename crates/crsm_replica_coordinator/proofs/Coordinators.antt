@@ -16,13 +16,14 @@ use Rattle.crsm_spec.specs.Quorum.{spec_decided, has_majority}
 use Rattle.std.specs.Option.{option_map_or}
 use Rattle.crsm_spec.specs.Replica.{LogPage, Coordinator as CoordinatorOnPaper}
 use Rattle.crsm_spec.specs.Log.{Log, decision, start, known as known_of}
+use Rattle.crsm_paxos.specs.Best.{FitsFound}
 use Rattle.crsm_suspend.specs.declared.collect.Collect.{Collect}
 use Rattle.crsm_suspend.specs.Collecting.{CollectStands}
 use Rattle.crsm_suspend.proofs.CollectLemmas.{same_collecting}
 use Rattle.crsm_replica_coordinator.specs.declared.coordinator.Coordinator.{Coordinator}
 use Rattle.crsm_replica_coordinator.specs.declared.coordinator.Stage.{Stage}
 use Rattle.crsm_replica_coordinator.specs.declared.coordinator.Voted.{Voted}
-use Rattle.crsm_replica_coordinator.specs.Coordinator.{IsCounted, IsGathering, named_in, IsOwn, FitsFound, IsAsking, IsProposing, CoordinatorStands, VotedIs, stage_of, counted_of, takes_answer, takes_vote, is_ended_by, ballot_of, proposal_of, proposal_with, answered, preempted_by, counted_by, proposal_by, proposal_by_with, is_chosen_with}
+use Rattle.crsm_replica_coordinator.specs.Coordinator.{IsCounted, IsGathering, named_in, IsOwn, IsAsking, IsProposing, CoordinatorStands, VotedIs, stage_of, counted_of, takes_answer, takes_vote, is_ended_by, ballot_of, proposal_of, proposal_with, answered, preempted_by, counted_by, proposal_by, proposal_by_with, is_chosen_with}
 use Rattle.crsm_replica_coordinator.proofs.Counting.{push_counted, none_counted, many_counted, has_either_end, has_again}
 
 none_has : (k : ℕ) → has [] k ≡ false
@@ -68,11 +69,11 @@ module _ (me n : ℕ) (known : Option Decision) where
   other_cases P (Coordinator.Collecting c) (CoordinatorOnPaper.Preparing b own answers) s not q w o = absurd s
   other_cases P (Coordinator.Collecting c) (CoordinatorOnPaper.Proposing b own value acceptors) s not q w o = absurd s
   other_cases P (Coordinator.Collecting c) (CoordinatorOnPaper.Preempted own seen) s not q w o = absurd s
-  other_cases P (Coordinator.Preempted x y) CoordinatorOnPaper.Idle s not q w o = absurd s
-  other_cases P (Coordinator.Preempted x y) (CoordinatorOnPaper.Collecting ms pages) s not q w o = absurd s
-  other_cases P (Coordinator.Preempted x y) (CoordinatorOnPaper.Preparing b own answers) s not q w o = absurd s
-  other_cases P (Coordinator.Preempted x y) (CoordinatorOnPaper.Proposing b own value acceptors) s not q w o = absurd s
-  other_cases P (Coordinator.Preempted x y) (CoordinatorOnPaper.Preempted own seen) s not q w o = o own seen
+  other_cases P (Coordinator.Preempted r) CoordinatorOnPaper.Idle s not q w o = absurd s
+  other_cases P (Coordinator.Preempted r) (CoordinatorOnPaper.Collecting ms pages) s not q w o = absurd s
+  other_cases P (Coordinator.Preempted r) (CoordinatorOnPaper.Preparing b own answers) s not q w o = absurd s
+  other_cases P (Coordinator.Preempted r) (CoordinatorOnPaper.Proposing b own value acceptors) s not q w o = absurd s
+  other_cases P (Coordinator.Preempted r) (CoordinatorOnPaper.Preempted own seen) s not q w o = o own seen
 
   pub not_asking : (coordinator : Coordinator) (b : Ballot) (own : Decision) (answers : List (Answer Decision)) → CoordinatorStands coordinator me n known (CoordinatorOnPaper.Preparing b own answers) →
       ((p : Proposing Decision) → coordinator ≡ Coordinator.Proposing p → ⊥) → ⊥
@@ -80,7 +81,7 @@ module _ (me n : ℕ) (known : Option Decision) where
   not_asking (Coordinator.Proposing p) b own answers s not = not p refl
   not_asking Coordinator.Idle b own answers s not = s
   not_asking (Coordinator.Collecting c) b own answers s not = s
-  not_asking (Coordinator.Preempted x y) b own answers s not = s
+  not_asking (Coordinator.Preempted r) b own answers s not = s
 
   pub not_proposing : (coordinator : Coordinator) (b : Ballot) (own value : Decision) (acceptors : List ℕ) → CoordinatorStands coordinator me n known (CoordinatorOnPaper.Proposing b own value acceptors) →
       ((p : Proposing Decision) → coordinator ≡ Coordinator.Proposing p → ⊥) → ⊥
@@ -88,14 +89,14 @@ module _ (me n : ℕ) (known : Option Decision) where
   not_proposing (Coordinator.Proposing p) b own value acceptors s not = not p refl
   not_proposing Coordinator.Idle b own value acceptors s not = s
   not_proposing (Coordinator.Collecting c) b own value acceptors s not = s
-  not_proposing (Coordinator.Preempted x y) b own value acceptors s not = s
+  not_proposing (Coordinator.Preempted r) b own value acceptors s not = s
 
-  pub not_over : (coordinator : Coordinator) (own : Decision) (seen : Ballot) → CoordinatorStands coordinator me n known (CoordinatorOnPaper.Preempted own seen) → ((x : Decision) (y : Ballot) → coordinator ≡ Coordinator.Preempted x y → ⊥) → ⊥
+  pub not_over : (coordinator : Coordinator) (own : Decision) (seen : Ballot) → CoordinatorStands coordinator me n known (CoordinatorOnPaper.Preempted own seen) → ((r : Decision × Ballot) → coordinator ≡ Coordinator.Preempted r → ⊥) → ⊥
   unfolding CoordinatorStands
   not_over (Coordinator.Proposing p) own seen s not = s
   not_over Coordinator.Idle own seen s not = s
   not_over (Coordinator.Collecting c) own seen s not = s
-  not_over (Coordinator.Preempted x y) own seen s not = not x y refl
+  not_over (Coordinator.Preempted r) own seen s not = not r refl
 
   pub as_asking : (p : Proposing Decision) (b : Ballot) (own : Decision) (answers : List (Answer Decision)) → CoordinatorStands (Coordinator.Proposing p) me n known (CoordinatorOnPaper.Preparing b own answers) →
       IsAsking p me n known b own answers
@@ -114,7 +115,7 @@ module _ (me n : ℕ) (known : Option Decision) where
   asking_mine (Coordinator.Proposing p) b own answers s = (s.mine, s.round)
   asking_mine Coordinator.Idle b own answers s = absurd s
   asking_mine (Coordinator.Collecting c) b own answers s = absurd s
-  asking_mine (Coordinator.Preempted x y) b own answers s = absurd s
+  asking_mine (Coordinator.Preempted r) b own answers s = absurd s
 
   pub proposing_mine : (coordinator : Coordinator) (b : Ballot) (own value : Decision) (acceptors : List ℕ) → CoordinatorStands coordinator me n known (CoordinatorOnPaper.Proposing b own value acceptors) →
       IsOwn me n known own × FitsBallot b × FitsDecision value
@@ -122,7 +123,7 @@ module _ (me n : ℕ) (known : Option Decision) where
   proposing_mine (Coordinator.Proposing p) b own value acceptors s = (s.mine, s.round, s.spelt)
   proposing_mine Coordinator.Idle b own value acceptors s = absurd s
   proposing_mine (Coordinator.Collecting c) b own value acceptors s = absurd s
-  proposing_mine (Coordinator.Preempted x y) b own value acceptors s = absurd s
+  proposing_mine (Coordinator.Preempted r) b own value acceptors s = absurd s
 
   -- ---- readers
 
@@ -147,7 +148,7 @@ module _ (me n : ℕ) (known : Option Decision) where
   not_collecting (Coordinator.Collecting c) ms pages s not = not c refl
   not_collecting Coordinator.Idle ms pages s not = s
   not_collecting (Coordinator.Proposing p) ms pages s not = s
-  not_collecting (Coordinator.Preempted x y) ms pages s not = s
+  not_collecting (Coordinator.Preempted r) ms pages s not = s
 
   pub as_gathering : (c : Collect) (ms : List ℕ) (pages : List LogPage) → CoordinatorStands (Coordinator.Collecting c) me n known (CoordinatorOnPaper.Collecting ms pages) → IsGathering c me n known ms pages
   unfolding CoordinatorStands
@@ -157,13 +158,13 @@ module _ (me n : ℕ) (known : Option Decision) where
   unfolding CoordinatorStands
   gathering_stands c ms pages s = s
 
-  pub stage_over : (x : Decision) (y : Ballot) (m : CoordinatorOnPaper) → CoordinatorStands (Coordinator.Preempted x y) me n known m → Stage.Preempted ≡ stage_of m
+  pub stage_over : (r : Decision × Ballot) (m : CoordinatorOnPaper) → CoordinatorStands (Coordinator.Preempted r) me n known m → Stage.Preempted ≡ stage_of m
   unfolding CoordinatorStands stage_of
-  stage_over x y CoordinatorOnPaper.Idle s = absurd s
-  stage_over x y (CoordinatorOnPaper.Collecting ms pages) s = absurd s
-  stage_over x y (CoordinatorOnPaper.Preparing b own answers) s = absurd s
-  stage_over x y (CoordinatorOnPaper.Proposing b own value acceptors) s = absurd s
-  stage_over x y (CoordinatorOnPaper.Preempted own seen) s = refl
+  stage_over r CoordinatorOnPaper.Idle s = absurd s
+  stage_over r (CoordinatorOnPaper.Collecting ms pages) s = absurd s
+  stage_over r (CoordinatorOnPaper.Preparing b own answers) s = absurd s
+  stage_over r (CoordinatorOnPaper.Proposing b own value acceptors) s = absurd s
+  stage_over r (CoordinatorOnPaper.Preempted own seen) s = refl
 
   pub stage_proposer : (p : Proposing Decision) (m : CoordinatorOnPaper) (r : Stage) → CoordinatorStands (Coordinator.Proposing p) me n known m →
       (p.has_proposed ≡ true → r ≡ Stage.Proposing) → (p.has_proposed ≡ false → r ≡ Stage.Preparing) → r ≡ stage_of m
@@ -217,13 +218,6 @@ module _ (me n : ℕ) (known : Option Decision) where
       (λ c own value acceptors v.
       ap (λ h. if h then Some (p.ballot, value_proposed p) else None) v.proposes ∙ ap (λ b. Some (b, value_proposed p)) v.ballot ∙ ap (λ d. Some (c, d)) v.value_is)
 
-  pub proposal_fits : (p : Proposing Decision) (m : CoordinatorOnPaper) (r : Option (Ballot × Decision)) → CoordinatorStands (Coordinator.Proposing p) me n known m → r ≡ proposal_of m → FitsOption FitsVote r
-  unfolding proposal_of
-  proposal_fits p m r s =
-      proposer_cases (λ x. r ≡ proposal_of x → FitsOption FitsVote r) p m s
-      (λ c own answers a e. subst (λ o. FitsOption FitsVote o) (sym e) tt)
-      (λ c own value acceptors v e. subst (λ o. FitsOption FitsVote o) (sym e) (v.round, v.spelt))
-
   -- ---- answers
 
   best_with : (answers : List (Answer Decision)) (a : Answer Decision) (best : Option (Found Decision)) → best ≡ best_of answers → better_held best a.replica a.accepted ≡ best_of (answers ++ a ∷ [])
@@ -261,14 +255,6 @@ module _ (me n : ℕ) (known : Option Decision) where
       ap (λ t. if t then None else Some (p.ballot, value_proposed (after_answer p a.replica a.accepted))) h.waits
       ∙ ap (λ b. Some (b, value_proposed (after_answer p a.replica a.accepted))) h.ballot ∙ ap (λ d. Some (c, d)) (value_with_is p c own answers a h))
       (λ c own value acceptors v. ap (λ t. if t then None else Some (p.ballot, value_proposed (after_answer p a.replica a.accepted))) v.proposes)
-
-  pub proposal_with_fits : (p : Proposing Decision) (m : CoordinatorOnPaper) (a : Answer Decision) (r : Option (Ballot × Decision)) → CoordinatorStands (Coordinator.Proposing p) me n known m →
-      FitsOption FitsVote a.accepted → r ≡ proposal_with m a → FitsOption FitsVote r
-  unfolding proposal_with
-  proposal_with_fits p m a r s f =
-      proposer_cases (λ x. r ≡ proposal_with x a → FitsOption FitsVote r) p m s
-      (λ c own answers h e. subst (λ o. FitsOption FitsVote o) (sym e) (h.round, value_with_fits p c own answers a h f))
-      (λ c own value acceptors v e. subst (λ o. FitsOption FitsVote o) (sym e) tt)
 
   replicas_with : (answers : List (Answer Decision)) (a : Answer Decision) → map (λ f. f.replica) (answers ++ a ∷ []) ≡ map (λ f. f.replica) answers ++ a.replica ∷ []
   replicas_with answers a = map-append (λ (f : Answer Decision). f.replica) answers (a ∷ [])
@@ -438,24 +424,18 @@ module _ (me n : ℕ) (known : Option Decision) where
 
   -- ---- the ends of a ballot
 
-  pub over_stands : (own : Decision) (seen : Ballot) → IsOwn me n known own → FitsBallot seen → CoordinatorStands (Coordinator.Preempted own seen) me n known (CoordinatorOnPaper.Preempted own seen)
-  unfolding CoordinatorStands
-  over_stands own seen i f = (refl, refl, record { mine = i; round = f })
-
   pub preempted_stands : (p : Proposing Decision) (own : Decision) (m : CoordinatorOnPaper) (top : Ballot) → CoordinatorStands (Coordinator.Proposing p) me n known m → FitsBallot top → own ≡ p.own →
-      CoordinatorStands (Coordinator.Preempted own top) me n known (preempted_by m top)
+      CoordinatorStands (Coordinator.Preempted (own, top)) me n known (preempted_by m top)
   unfolding preempted_by CoordinatorStands
   preempted_stands p own m top s f e =
-      proposer_cases (λ x. CoordinatorStands (Coordinator.Preempted own top) me n known (preempted_by x top)) p m s
-      (λ c o answers a. (e ∙ a.own_is, refl, record { mine = subst (λ d. IsOwn me n known d) (sym (e ∙ a.own_is)) a.mine; round = f }))
-      (λ c o value acceptors v. (e ∙ v.own_is, refl, record { mine = subst (λ d. IsOwn me n known d) (sym (e ∙ v.own_is)) v.mine; round = f }))
+      proposer_cases (λ x. CoordinatorStands (Coordinator.Preempted (own, top)) me n known (preempted_by x top)) p m s
+      (λ c o answers a. (e ∙ a.own_is, refl, record { mine = a.mine; round = f }))
+      (λ c o value acceptors v. (e ∙ v.own_is, refl, record { mine = v.mine; round = f }))
 
-  pub own_back : (x : Decision) (y : Ballot) (own : Decision) (seen : Ballot) → CoordinatorStands (Coordinator.Preempted x y) me n known (CoordinatorOnPaper.Preempted own seen) →
-      (◌≡◌ {A = Option (Decision × Ballot)} (Some (x, y)) (Some (own, seen))) × IsOwn me n known own × FitsBallot seen
+  pub own_back : (r : Decision × Ballot) (own : Decision) (seen : Ballot) → CoordinatorStands (Coordinator.Preempted r) me n known (CoordinatorOnPaper.Preempted own seen) →
+      (r ≡ (own, seen)) × IsOwn me n known own × FitsBallot seen
   unfolding CoordinatorStands
-  own_back x y own seen s =
-      let is : ◌≡◌ {A = Option (Decision × Ballot)} (Some (x, y)) (Some (own, seen)) = ap (λ d. Some (d, y)) s.0 ∙ ap (λ b. Some (own, b)) s.1 in
-      (is, subst (λ d. IsOwn me n known d) s.0 s.2.mine, subst (λ b. FitsBallot b) s.1 s.2.round)
+  own_back r own seen s = (ap (λ (d : Decision). (d, r.1)) s.0 ∙ ap (λ (b : Ballot). (own, b)) s.1, s.2.mine, s.2.round)
 
   -- ---- the beginning of a ballot
 

@@ -7,11 +7,12 @@ use Rattle.crsm_base.specs.Order.{ballot_lt, ballot_eq}
 use Rattle.crsm_base.specs.Spelling.{FitsBallot, FitsDecision}
 use Rattle.crsm_spec.specs.Types.{Ballot, Decision}
 use Rattle.crsm_spec.specs.Lists.{has}
-use Rattle.crsm_spec.specs.Paxos.{Held, majority, Answer, Found, best_of, value_of}
+use Rattle.crsm_spec.specs.Paxos.{Held, majority, Answer, best_of, value_of}
 use Rattle.crsm_spec.specs.Proposing.{Proposing, value_proposed, after_answer}
 use Rattle.crsm_spec.specs.Quorum.{spec_decided, has_majority}
 use Rattle.crsm_spec.specs.Replica.{LogPage, Coordinator as CoordinatorOnPaper}
 use Rattle.crsm_spec.specs.Log.{Log, decision}
+use Rattle.crsm_paxos.specs.Best.{FitsFound}
 use Rattle.crsm_suspend.specs.declared.collect.Collect.{Collect}
 use Rattle.crsm_suspend.specs.Collecting.{CollectStands}
 use Rattle.crsm_spec.specs.Choice.{when◌then◌otherwise◌}
@@ -37,11 +38,6 @@ pub record IsOwn (me n : ℕ) (known : Option Decision) (own : Decision) : Type 
   pub counted : has (spec_decided n known) me ≡ true
   pub next : own.epoch ≡ epoch_of known + 1
   pub spelt : FitsDecision own
-
--- the accepted decision found has an encoding
-abbrev pub FitsFound : Option (Found Decision) → Type 0
-FitsFound None = Unit {0}
-FitsFound (Some f) = FitsDecision f.value
 
 -- ---- a collection
 
@@ -116,7 +112,7 @@ CoordinatorStands Coordinator.Idle me n known CoordinatorOnPaper.Idle = Unit {0}
 CoordinatorStands (Coordinator.Collecting c) me n known (CoordinatorOnPaper.Collecting ms pages) = IsGathering c me n known ms pages
 CoordinatorStands (Coordinator.Proposing p) me n known (CoordinatorOnPaper.Preparing b own answers) = IsAsking p me n known b own answers
 CoordinatorStands (Coordinator.Proposing p) me n known (CoordinatorOnPaper.Proposing b own value acceptors) = IsProposing p me n known b own value acceptors
-CoordinatorStands (Coordinator.Preempted own seen) me n known (CoordinatorOnPaper.Preempted theirs top) = (own ≡ theirs) × (seen ≡ top) × IsOver me n known own seen
+CoordinatorStands (Coordinator.Preempted retry) me n known (CoordinatorOnPaper.Preempted own seen) = (retry.0 ≡ own) × (retry.1 ≡ seen) × IsOver me n known own seen
 CoordinatorStands _ me n known _ = ⊥
 
 -- ---- the readers of a coordinator of the definitions

@@ -1,7 +1,5 @@
 -- For each coordinator of the definitions of one stage that the one in memory stands for.
 use Rattle.std.specs.Prelude.{◌≡◌, ℕ, ◌+◌, List, Option, true, false, map}
-use Rattle.crsm_base.specs.Messages.{FitsVote}
-use Rattle.crsm_base.specs.Spelling.{FitsBallot, FitsOption}
 use Rattle.crsm_spec.specs.Types.{Ballot, Decision}
 use Rattle.crsm_spec.specs.Lists.{has}
 use Rattle.crsm_spec.specs.Log.{Log, decision}
@@ -39,11 +37,10 @@ abbrev pub AnsweredIs : Coordinator → ℕ → ℕ → Option Decision → Ball
 AnsweredIs coordinator me n known b own answers = CoordinatorStands coordinator me n known (answered (spec_decided n known) b own answers)
 
 -- for a decision of replica me's own over this Spec, and its ballot in the round after that of another ballot
-abbrev pub WhereNextRound : ℕ → Decision → List ℕ → Ballot → Held Decision → (ℕ → Option Decision → Ballot → Type 0) → Type 0
-WhereNextRound me own spec above accepted P =
+abbrev pub WhereNextRound : ℕ → Decision → List ℕ → Ballot → (ℕ → Option Decision → Ballot → Type 0) → Type 0
+WhereNextRound me own spec above P =
     (n round : ℕ) (known : Option Decision) →
-    IsOwn me n known own → spec ≡ spec_decided n known → FitsOption FitsVote accepted →
-    round ≡ above.round + 1 → FitsBallot (record { round = round; by = me }) → P n known (record { round = round; by = me })
+    IsOwn me n known own → spec ≡ spec_decided n known → round ≡ above.round + 1 → P n known (record { round = round; by = me })
 
 -- for a coordinator that prepares, and a replica of the Spec that has not answered
 abbrev pub WhereUnanswered : Coordinator → ℕ → (ℕ → ℕ → Option Decision → Ballot → Decision → List (Answer Decision) → Type 0) → Type 0

@@ -4,14 +4,15 @@ ghost use Rattle.std.specs.Prelude.{◌≡◌, ◌<◌, ◌+◌, ◌^◌, ℕ, O
 ghost use Rattle.crsm_base.specs.declared.Decision.{Decision};
 ghost use Rattle.crsm_base.specs.declared.Ballot.{Ballot};
 ghost use Rattle.crsm_base.specs.Messages.{FitsVote};
-ghost use Rattle.crsm_base.specs.Spelling.{FitsBallot, FitsOption};
+ghost use Rattle.crsm_base.specs.Spelling.{FitsBallot, FitsDecision, FitsOption};
 ghost use Rattle.crsm_spec.specs.Lists.{has};
 ghost use Rattle.crsm_spec.specs.Quorum.{spec_decided};
 ghost use Rattle.crsm_spec.specs.Replica.{Coordinator as CoordinatorOnPaper};
 ghost use Rattle.crsm_replica_coordinator.specs.Coordinator.{CoordinatorStands, IsOwn, VotedIs, preempted_by, WhereStands};
+ghost use Rattle.crsm_replica_coordinator.specs.Retries.{FitsRetry};
 ghost use Rattle.crsm_replica_coordinator.specs.Stages.{AnsweredIs, WhereNextRound, WherePreempted, WhereProposing, WhereUnanswered, answer_of};
 
-use crate::coordinator::{Coordinator, Voted};
+use crate::coordinator::{Coordinator, Retry, Voted};
 use crate::readers::is_chosen_with;
 use crsm_base::{Ballot, Decision, Members, NoMemory};
 use crsm_paxos::Proposer;
@@ -24,13 +25,6 @@ impl Coordinator {
         ensures { (me n : ℕ) (known : Option Decision) → CoordinatorStands result me n known CoordinatorOnPaper.Idle }
     {
         Coordinator::Idle
-    }
-
-    /// Returns a coordinator that is to propose its own decision above the ballot `seen`.
-    pub fn over(own: Decision, seen: Ballot) -> Coordinator
-        ensures { (me n : ℕ) (known : Option Decision) → IsOwn me n known own → FitsBallot seen → CoordinatorStands result me n known (CoordinatorOnPaper.Preempted own seen) }
-    {
-        Coordinator::Preempted { own, seen }
     }
 
     /// Returns a coordinator that asks for promises in the round after that of a ballot, which exists, over this
@@ -46,7 +40,9 @@ impl Coordinator {
     ) -> Result<Coordinator, NoMemory>
         requires me { me < 15 }
         requires next { above.round + 1 < 2 ^ 64 }
-        ensures { WhereNextRound me own spec.now above accepted (λ n known b. IfOk result (λ coordinator. AnsweredIs coordinator me n known b own (answer_of me accepted ∷ []))) }
+        requires own { FitsDecision own }
+        requires accepted { FitsOption FitsVote accepted }
+        ensures { WhereNextRound me own spec.now above (λ n known b. IfOk result (λ coordinator. AnsweredIs coordinator me n known b own (answer_of me accepted ∷ []))) }
     {
         let size = spec.count();
         let mut proposer = Proposer::start(alloc, own, above, me, size);
@@ -61,8 +57,9 @@ impl Coordinator {
         k: u32,
         accepted: Option<(Ballot, Decision)>,
     ) -> Result<Coordinator, NoMemory>
-        requires { k < 15 }
-        ensures { WhereUnanswered self k (λ me n known b own answers. FitsOption FitsVote accepted → IfOk result (λ coordinator. AnsweredIs coordinator me n known b own (answers ++ answer_of k accepted ∷ []))) }
+        requires below { k < 15 }
+        requires accepted { FitsOption FitsVote accepted }
+        ensures { WhereUnanswered self k (λ me n known b own answers. IfOk result (λ coordinator. AnsweredIs coordinator me n known b own (answers ++ answer_of k accepted ∷ []))) }
     {
         match self {
             Coordinator::Proposing(mut proposer) => {
@@ -94,25 +91,26 @@ impl Coordinator {
 
     /// Ends the proposal, which is preempted by the ballot `top`.
     pub fn preempted(self, top: Ballot) -> Coordinator
-        ensures { WhereStands self (λ me n known m. FitsBallot top → CoordinatorStands result me n known (preempted_by m top)) }
+        requires { FitsBallot top }
+        ensures { WhereStands self (λ me n known m. CoordinatorStands result me n known (preempted_by m top)) }
     {
         match self {
-            Coordinator::Proposing(proposer) => Coordinator::Preempted {
-                own: proposer.into_own(),
-                seen: top,
-            },
+            Coordinator::Proposing(proposer) => {
+                Coordinator::Preempted(Retry::new(proposer.into_own(), top))
+            }
             other => other,
         }
     }
 
     /// Returns the coordinator's own decision, to be proposed again, and the ballot that preempted it. `None` unless it
-    /// is preempted.
-    pub fn into_own(self) -> Option<(Decision, Ballot)>
-        ensures { WherePreempted self (λ me n known own seen. (result ≡ Some (own, seen)) × IsOwn me n known own × FitsBallot seen) }
+    /// is preempted. `NoMemory` if memory runs out.
+    pub fn own_again(&self, alloc: Global) -> Result<Option<(Decision, Ballot)>, NoMemory>
+        ensures value { WherePreempted self.now (λ me n known own seen. IfOk result (λ again. (again ≡ Some (own, seen)) × IsOwn me n known own × FitsBallot seen)) }
+        ensures fits { IfOk result (FitsOption FitsRetry) }
     {
         match self {
-            Coordinator::Preempted { own, seen } => Some((own, seen)),
-            _ => None,
+            Coordinator::Preempted(retry) => Ok(Some(retry.copy(alloc)?)),
+            _ => Ok(None),
         }
     }
 }

@@ -7,4 +7,4 @@ mod gathering;
 mod proposals;
 mod readers;
 
-pub use coordinator::{Coordinator, Stage, Voted};
+pub use coordinator::{Coordinator, Retry, Stage, Voted};

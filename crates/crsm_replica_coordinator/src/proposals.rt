@@ -18,7 +18,7 @@ impl Coordinator {
     /// runs out.
     pub fn proposal(&self, alloc: Global) -> Result<Option<(Ballot, Decision)>, NoMemory>
         ensures value { WhereStands self.now (λ me n known m. IfOk result (λ p. p ≡ proposal_of m)) }
-        ensures spelt { WhereStands self.now (λ me n known m. IfOk result (λ p. FitsOption FitsVote p)) }
+        ensures fits { IfOk result (FitsOption FitsVote) }
     {
         match self {
             Coordinator::Proposing(proposer) => proposal_in(alloc, proposer),
@@ -34,8 +34,9 @@ impl Coordinator {
         k: u32,
         accepted: &Option<(Ballot, Decision)>,
     ) -> Result<Option<(Ballot, Decision)>, NoMemory>
+        requires { FitsOption FitsVote accepted.now }
         ensures value { WhereStands self.now (λ me n known m. IfOk result (λ p. p ≡ proposal_with m (record { replica = k; accepted = accepted.now }))) }
-        ensures spelt { WhereStands self.now (λ me n known m. FitsOption FitsVote accepted.now → IfOk result (λ p. FitsOption FitsVote p)) }
+        ensures fits { IfOk result (FitsOption FitsVote) }
     {
         match self {
             Coordinator::Proposing(proposer) => proposal_in_with(alloc, proposer, k, accepted),
@@ -81,7 +82,8 @@ fn is_counted(proposer: &Proposer, k: u32) -> bool
 }
 
 fn proposal_in(alloc: Global, proposer: &Proposer) -> Result<Option<(Ballot, Decision)>, NoMemory>
-    ensures { IfOk result (λ p. p ≡ proposal_by proposer.now) }
+    ensures value { IfOk result (λ p. p ≡ proposal_by proposer.now) }
+    ensures fits { IfOk result (FitsOption FitsVote) }
 {
     if !proposer.has_proposed() {
         return Ok(None);
@@ -96,7 +98,9 @@ fn proposal_in_with(
     k: u32,
     accepted: &Option<(Ballot, Decision)>,
 ) -> Result<Option<(Ballot, Decision)>, NoMemory>
-    ensures { IfOk result (λ p. p ≡ proposal_by_with proposer.now k accepted.now) }
+    requires { FitsOption FitsVote accepted.now }
+    ensures value { IfOk result (λ p. p ≡ proposal_by_with proposer.now k accepted.now) }
+    ensures fits { IfOk result (FitsOption FitsVote) }
 {
     if proposer.has_proposed() {
         return Ok(None);

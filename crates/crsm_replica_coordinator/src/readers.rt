@@ -21,7 +21,7 @@ impl Coordinator {
             Coordinator::Idle => Stage::Idle,
             Coordinator::Collecting(_) => Stage::Collecting,
             Coordinator::Proposing(proposer) => stage_in(proposer.has_proposed()),
-            Coordinator::Preempted { .. } => Stage::Preempted,
+            Coordinator::Preempted(_) => Stage::Preempted,
         }
     }
 

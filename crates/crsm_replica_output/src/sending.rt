@@ -3,39 +3,33 @@
 ghost use Rattle.std.specs.Prelude.{[], ◌∷◌, ◌++◌, IfOk, OnOk};
 ghost use Rattle.crsm_base.specs.declared.Control.{Control};
 ghost use Rattle.crsm_base.specs.declared.Datagram.{Datagram};
+ghost use Rattle.crsm_base.specs.Messages.{FitsControl};
+ghost use Rattle.crsm_base.specs.Spelling.{FitsDecision};
 ghost use Rattle.crsm_spec.specs.Draft.{parts_to};
 ghost use Rattle.crsm_replica_output.specs.Made.{Made, OutputStands};
 ghost use Rattle.crsm_replica_output.specs.Spellings.{IsSpelling, IsSpellingOf, WhereNext};
 
 use crate::output::Output;
-use crsm_base::{
-    Bytes, Control as Message, Datagram as Carried, Decision, NoMemory, PART_BYTES, never,
-};
+use crsm_base::{Bytes, Control as Message, Datagram as Carried, Decision, NoMemory, PART_BYTES};
 use crsm_segment::cut;
-use crsm_wire::{is_control_spelt, is_decision_spelt, put_control, put_decide};
+use crsm_wire::{put_control, put_decide};
 use std::alloc::Global;
 
-/// Returns the encoding of a control message. `NoMemory` if memory runs out, or if the message has none, which no
-/// message that a replica sends is.
+/// Returns the encoding of a control message. `NoMemory` if memory runs out.
 pub fn spell(alloc: Global, message: &Message) -> Result<Bytes, NoMemory>
+    requires { FitsControl message.now }
     ensures { IfOk result (λ bytes. IsSpellingOf bytes message.now) }
 {
-    if !is_control_spelt(message) {
-        return Err(never());
-    }
     let mut bytes = Bytes::new(alloc);
     put_control(message, &mut bytes)?;
     Ok(bytes)
 }
 
-/// Returns the encoding of the control message that carries a decision. `NoMemory` if memory runs out, or if it has
-/// none, which no decision that a replica sends is.
+/// Returns the encoding of the control message that carries a decision. `NoMemory` if memory runs out.
 pub fn spell_decision(alloc: Global, decision: &Decision) -> Result<Bytes, NoMemory>
+    requires { FitsDecision decision.now }
     ensures { IfOk result (λ bytes. IsSpellingOf bytes (Control.Decide decision.now)) }
 {
-    if !is_decision_spelt(decision) {
-        return Err(never());
-    }
     let mut bytes = Bytes::new(alloc);
     put_decide(decision, &mut bytes)?;
     Ok(bytes)

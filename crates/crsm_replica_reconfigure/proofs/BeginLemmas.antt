@@ -1,11 +1,11 @@
 -- The beginning of a proposal of an own decision: its effect, and whether its records fit.
-use Rattle.std.proofs.Common.{◌≡◌, ℕ, ◌+◌, ◌<◌, List, [], ◌∷◌, ◌++◌, refl, sym, ◌∙◌, ap, subst, arith, Bool, true, false, map}
-use Rattle.std.specs.Prelude.{◌&&◌, ◌==◌, ◌^◌, Option, Some, None}
+use Rattle.std.proofs.Common.{◌≡◌, ℕ, ◌+◌, List, [], ◌∷◌, ◌++◌, refl, sym, ◌∙◌, ap, subst, arith, Bool, true, false, map}
+use Rattle.std.specs.Prelude.{◌&&◌, ◌==◌, Option, Some, None}
 use Rattle.std.proofs.lemmas.Bool.{false≢true, eq-eqb}
 use Rattle.std.proofs.lemmas.Bool.Decides.{nat_tests}
 use Rattle.crsm_base.specs.Messages.{FitsVote}
 use Rattle.crsm_base.specs.Order.{ballot_lt}
-use Rattle.crsm_base.specs.Spelling.{FitsDecision, FitsBallot, FitsOption}
+use Rattle.crsm_base.specs.Spelling.{FitsDecision, FitsOption}
 use Rattle.crsm_spec.specs.Types.{Ballot, Entry, Decision, Rec}
 use Rattle.crsm_spec.specs.Choice.{when◌then◌otherwise◌}
 use Rattle.crsm_spec.specs.Clock.{u64_max}
@@ -18,7 +18,7 @@ use Rattle.crsm_spec.specs.Draft.{Draft, keep, noting}
 use Rattle.crsm_spec.specs.Coordinate.{instance, accept_own, send_ask, propose, count_answer, ask, greater_ballot, begin_proposing}
 use Rattle.crsm_spec.specs.Step.{renew}
 use Rattle.crsm_fact_log.proofs.Tests.{above_top}
-use Rattle.crsm_fact_log.proofs.LogsFit.{accepted_fits, promised_fits}
+use Rattle.crsm_fact_log.proofs.LogsFit.{accepted_fits}
 use Rattle.crsm_replica_coordinator.specs.declared.coordinator.Coordinator.{Coordinator as InMemory}
 use Rattle.crsm_replica_coordinator.specs.Coordinator.{CoordinatorStands, answered}
 use Rattle.crsm_replica.specs.Sound.{IsSound}
@@ -207,19 +207,6 @@ begins_shared own seen x s c few = go ((greater_ballot (promised x.replica.log) 
     go false h = sym (fits_asking own seen _ x x s c (alike_self x s) refl h few)
 
 -- ---- on a state
-
--- the ballot in the next round has an encoding
-pub top_fits : (x : Draft) (seen : Ballot) → IsSound x → FitsBallot seen → (top : Ballot) → top ≡ greater_ballot (promised x.replica.log) seen → (top.round ≡ u64_max → ⊥) →
-    FitsBallot (after (greater_ballot (promised x.replica.log) seen) x.replica.me)
-unfolding greater_ballot when◌then◌otherwise◌
-top_fits x seen s f top e left = record { round = subst (λ (q : Ballot). q.round + 1 < 2 ^ 64) e small; by = s.number }
-  where
-    either : (c : Bool) → FitsBallot (when c then seen otherwise promised x.replica.log)
-    either true = f
-    either false = promised_fits x.replica.log s.spelt
-
-    small : top.round + 1 < 2 ^ 64
-    small = let g = subst (λ q. FitsBallot q) (sym e) (either (ballot_lt (promised x.replica.log) seen)) in let r = g.round in omega (arith, r, left)
 
 -- what a coordinator stands for does not depend on promises
 pub kept_stands : (coordinator : InMemory) (i : ℕ) (b : Ballot) (m : Coordinator) (x : Draft) → CoordinatorStands coordinator x.replica.me x.replica.n (decision x.replica.log) m →

@@ -55,7 +55,7 @@ unfolding CoordinatorStands
 gathering_in InMemory.Idle me n known ms pages s = absurd s
 gathering_in (InMemory.Collecting c) me n known ms pages s = (c, s)
 gathering_in (InMemory.Proposing p) me n known ms pages s = absurd s
-gathering_in (InMemory.Preempted own seen) me n known ms pages s = absurd s
+gathering_in (InMemory.Preempted retry) me n known ms pages s = absurd s
 
 page_fit : (x : ℕ) (p : LogPage) → CanSend x p → FitsPage x p
 page_fit x p h = record { executed = h.low; entries = λ z a. (all_at FitsEntry p.entries z h.fit a, all_at (λ e. e.epoch ≡ x) p.entries z h.of_epoch a) }

@@ -25,11 +25,6 @@ Follows rule old result new = IfOk result (λ _. (x : Draft) → ReplicaStands o
 abbrev pub FollowsWhere : (Draft → Type 0) → (Draft → Draft) → ReplicaState → Result (Unit {0}) NoMemory → ReplicaState → Type 0
 FollowsWhere P rule old result new = IfOk result (λ _. (x : Draft) → ReplicaStands old x → P x → ReplicaStands new (if_fitting x (rule x)))
 
--- and where the answer says whether its records fit
-abbrev pub TriesWhere : (Draft → Type 0) → (Draft → Draft) → ReplicaState → Result Bool NoMemory → ReplicaState → Type 0
-TriesWhere P rule old result new =
-    IfOk result (λ fit. (x : Draft) → ReplicaStands old x → P x → (fit ≡ (rule x).fitting) × ReplicaStands new (if_fitting x (rule x)))
-
 -- a rule that fits whenever the draft before it does
 abbrev pub MakesWhere : (Draft → Type 0) → (Draft → Draft) → ReplicaState → Result (Unit {0}) NoMemory → ReplicaState → Type 0
 MakesWhere P rule old result new = IfOk result (λ _. (x : Draft) → ReplicaStands old x → P x → ReplicaStands new (rule x))

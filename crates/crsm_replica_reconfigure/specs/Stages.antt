@@ -1,7 +1,6 @@
 -- For each draft that a state stands for and whose coordinator has a given stage.
 use Rattle.std.specs.Prelude.{◌≡◌, ℕ, ◌+◌, Bool, true, false, ◌==◌, ◌&&◌, ◌||◌, not, List, ◌∷◌, [], ◌++◌, filter, map, Option, None, Some}
-use Rattle.crsm_base.specs.Messages.{FitsVote}
-use Rattle.crsm_base.specs.Spelling.{FitsBallot, FitsDecision, FitsOption}
+use Rattle.crsm_base.specs.Spelling.{FitsDecision}
 use Rattle.crsm_spec.specs.Types.{Ballot, Decision}
 use Rattle.crsm_spec.specs.Lists.{has, numbers_below}
 use Rattle.crsm_spec.specs.Log.{accepted, decision}
@@ -56,25 +55,25 @@ abbrev pub WhereNextRound : ReplicaState → Decision → Ballot → (Draft → 
 WhereNextRound state own above P =
     (x : Draft) (round : ℕ) →
     ReplicaStands state x → IsOwn x.replica.me x.replica.n (decision x.replica.log) own →
-    round ≡ above.round + 1 → FitsBallot (record { round = round; by = x.replica.me }) → P x (record { round = round; by = x.replica.me })
+    round ≡ above.round + 1 → P x (record { round = round; by = x.replica.me })
 
 abbrev pub WherePreparing : ReplicaState → (Draft → Ballot → Decision → List (Answer Decision) → Type 0) → Type 0
 WherePreparing state P =
     (x : Draft) (b : Ballot) (own : Decision) (answers : List (Answer Decision)) →
     ReplicaStands state x → x.replica.coordinator ≡ CoordinatorOnPaper.Preparing b own answers → P x b own answers
 
--- a replica of the Spec that has not answered had accepted this
-abbrev pub WhereAnswerCounts : ReplicaState → ℕ → Held Decision → (Draft → Ballot → Decision → List (Answer Decision) → Type 0) → Type 0
-WhereAnswerCounts state k held P =
+-- for the answer of a replica of the Spec that has not answered
+abbrev pub WhereAnswerCounts : ReplicaState → ℕ → (Draft → Ballot → Decision → List (Answer Decision) → Type 0) → Type 0
+WhereAnswerCounts state k P =
     (x : Draft) (b : Ballot) (own : Decision) (answers : List (Answer Decision)) →
     ReplicaStands state x → x.replica.coordinator ≡ CoordinatorOnPaper.Preparing b own answers →
-    has (spec_of x.replica) k ≡ true → has (map (λ f. f.replica) answers) k ≡ false → FitsOption FitsVote held → P x b own answers
+    has (spec_of x.replica) k ≡ true → has (map (λ f. f.replica) answers) k ≡ false → P x b own answers
 
 -- the answer of this replica makes a majority
 abbrev pub WhereAnswerIsLast : ReplicaState → ℕ → Held Decision → (Draft → Ballot → Decision → List (Answer Decision) → Type 0) → Type 0
 WhereAnswerIsLast state k held P =
     (x : Draft) (b : Ballot) (own : Decision) (answers : List (Answer Decision)) →
-    ReplicaStands state x → x.replica.coordinator ≡ CoordinatorOnPaper.Preparing b own answers → FitsOption FitsVote held →
+    ReplicaStands state x → x.replica.coordinator ≡ CoordinatorOnPaper.Preparing b own answers →
     has_majority (spec_of x.replica) (map (λ f. f.replica) (answers ++ answer_of k held ∷ [])) ≡ true → P x b own answers
 
 -- ---- it prepares or proposes

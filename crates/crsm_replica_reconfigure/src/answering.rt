@@ -2,14 +2,14 @@
 
 ghost use Rattle.std.specs.Prelude.{◌≡◌, ◌<◌, ◌++◌, ◌∷◌, [], false, IfOk};
 ghost use Rattle.crsm_base.specs.Messages.{FitsVote};
-ghost use Rattle.crsm_base.specs.Spelling.{FitsBallot, FitsOption};
+ghost use Rattle.crsm_base.specs.Spelling.{FitsOption};
 ghost use Rattle.crsm_spec.specs.Replica.{spec_of};
 ghost use Rattle.crsm_spec.specs.Draft.{noting};
 ghost use Rattle.crsm_spec.specs.Coordinate.{count_answer};
 ghost use Rattle.crsm_spec.specs.Step.{if_fitting};
 ghost use Rattle.crsm_replica_coordinator.specs.Coordinator.{answered};
 ghost use Rattle.crsm_replica.specs.Replica.{ReplicaStands};
-ghost use Rattle.crsm_replica_reconfigure.specs.Rules.{FollowsWhere, receives_answer};
+ghost use Rattle.crsm_replica_reconfigure.specs.Rules.{Follows, receives_answer};
 ghost use Rattle.crsm_replica_coordinator.specs.Stages.{answer_of};
 ghost use Rattle.crsm_replica_reconfigure.specs.Stages.{WhereAnswerCounts, WhereAnswerIsLast};
 
@@ -30,8 +30,9 @@ pub fn on_p1b(
     ballot: Ballot,
     accepted: &Option<(Ballot, Decision)>,
 ) -> Result<(), NoMemory>
-    requires { k < 15 }
-    ensures { FollowsWhere (λ x. FitsBallot ballot × FitsOption FitsVote accepted.now) (receives_answer k instance ballot accepted.now) state.old result state.new }
+    requires from { k < 15 }
+    requires spelt { FitsOption FitsVote accepted.now }
+    ensures { Follows (receives_answer k instance ballot accepted.now) state.old result state.new }
 {
     let counts = is_counted(state, k, instance);
     if !counts {
@@ -52,8 +53,9 @@ fn count_answer(
     k: u32,
     accepted: &Option<(Ballot, Decision)>,
 ) -> Result<(), NoMemory>
-    requires { k < 15 }
-    ensures { IfOk result (λ _. WhereAnswerCounts state.old k accepted.now (λ x b own answers. ReplicaStands state.new (if_fitting x (count_answer b own answers (answer_of k accepted.now) x)))) }
+    requires from { k < 15 }
+    requires spelt { FitsOption FitsVote accepted.now }
+    ensures { IfOk result (λ _. WhereAnswerCounts state.old k (λ x b own answers. ReplicaStands state.new (if_fitting x (count_answer b own answers (answer_of k accepted.now) x)))) }
 {
     states_are_sound();
     let is_last = state.coordinator().is_last_answer();
@@ -76,6 +78,7 @@ fn may_propose_with(
     k: u32,
     accepted: &Option<(Ballot, Decision)>,
 ) -> Result<bool, NoMemory>
+    requires { FitsOption FitsVote accepted.now }
     ensures { IfOk result (λ fit. WhereAnswerIsLast state.now k accepted.now (λ x b own answers. fit ≡ (count_answer b own answers (answer_of k accepted.now) x).fitting)) }
 {
     let found = state
@@ -95,8 +98,9 @@ fn put_answer(
     k: u32,
     accepted: &Option<(Ballot, Decision)>,
 ) -> Result<(), NoMemory>
-    requires { k < 15 }
-    ensures { IfOk result (λ _. WhereAnswerCounts state.old k accepted.now (λ x b own answers. ReplicaStands state.new (noting (answered (spec_of x.replica) b own (answers ++ answer_of k accepted.now ∷ [])) x))) }
+    requires from { k < 15 }
+    requires spelt { FitsOption FitsVote accepted.now }
+    ensures { IfOk result (λ _. WhereAnswerCounts state.old k (λ x b own answers. ReplicaStands state.new (noting (answered (spec_of x.replica) b own (answers ++ answer_of k accepted.now ∷ [])) x))) }
 {
     let accepted = copied(state.alloc(), accepted)?;
     let coordinator = state.take_coordinator();

@@ -1,6 +1,7 @@
 //! The beginning of a proposal of one's own decision.
 
 ghost use Rattle.std.specs.Prelude.{◌≡◌, ◌+◌, ◌<◌, ◌^◌, ℕ, [], ◌∷◌, true, IfOk};
+ghost use Rattle.crsm_base.specs.Spelling.{FitsBallot, FitsDecision};
 ghost use Rattle.crsm_spec.specs.Log.{accepted};
 ghost use Rattle.crsm_spec.specs.Paxos.{value_of};
 ghost use Rattle.crsm_spec.specs.Quorum.{has_majority};
@@ -49,6 +50,7 @@ pub fn begin_proposing(
     own: Decision,
     seen: Ballot,
 ) -> Result<(), NoMemory>
+    requires { FitsDecision own }
     ensures { MakesWhere (λ x. CanPropose own seen x × ((begin_proposing own seen x).fitting ≡ true)) (begin_proposing own seen) state.old result state.new }
 {
     states_are_sound();
@@ -73,7 +75,8 @@ pub fn begin_proposing(
 
 /// Returns a coordinator that asks for promises in the round after this ballot's, with its own promise counted.
 fn asking(state: &ReplicaState, own: Decision, top: Ballot) -> Result<Coordinator, NoMemory>
-    requires { top.round + 1 < 2 ^ 64 }
+    requires next { top.round + 1 < 2 ^ 64 }
+    requires own { FitsDecision own }
     ensures { IfOk result (λ coordinator. WhereNextRound state.now own top (λ x b. CoordinatesAs coordinator x (answered (spec_of x.replica) b own (own_answer x ∷ [])))) }
 {
     states_are_sound();
@@ -120,8 +123,10 @@ fn greater(a: Ballot, b: Ballot) -> Ballot
 
 /// Returns the ballot of a replica in the round after another ballot's, which is not the last.
 fn above(top: Ballot, me: u32) -> Ballot
-    requires { top.round + 1 < 2 ^ 64 }
-    ensures { result ≡ record { round = top.round + 1; by = me } }
+    requires next { top.round + 1 < 2 ^ 64 }
+    requires me { me < 15 }
+    ensures value { result ≡ record { round = top.round + 1; by = me } }
+    ensures fits { FitsBallot result }
 {
     Ballot {
         round: top.round + 1,

@@ -6,7 +6,7 @@ ghost use Rattle.crsm_base.specs.declared.Control.{Control as ControlOnPaper};
 ghost use Rattle.crsm_spec.specs.Draft.{send_to_each};
 ghost use Rattle.crsm_spec.specs.Lists.{has, numbers_below};
 ghost use Rattle.crsm_spec.specs.Coordinate.{on_chosen};
-ghost use Rattle.crsm_replica_reconfigure.specs.Rules.{TriesWhere, MakesWhere};
+ghost use Rattle.crsm_replica.specs.Replica.{Makes, MakesFitting};
 ghost use Rattle.crsm_replica_reconfigure.specs.Stages.{others_of_both};
 
 use crate::learning::learn;
@@ -17,7 +17,8 @@ use std::alloc::Global;
 /// Learns a chosen decision and sends it to all counted replicas of the old epoch and of the new one. `false` if its
 /// records do not fit, `NoMemory` if memory runs out; with `false` the state is unchanged.
 pub fn choose(state: &mut ReplicaState, decision: &Decision) -> Result<bool, NoMemory>
-    ensures { TriesWhere (λ x. FitsDecision decision.now) (on_chosen decision.now) state.old result state.new }
+    requires { FitsDecision decision.now }
+    ensures { MakesFitting (on_chosen decision.now) state.old result state.new }
 {
     let old = state.spec()?;
     let me = state.me();
@@ -38,7 +39,8 @@ fn send_both(
     me: u32,
     decision: &Decision,
 ) -> Result<(), NoMemory>
-    ensures { MakesWhere (λ x. FitsDecision decision.now) (send_to_each (others_of_both old.now new.now me) (ControlOnPaper.Decide decision.now)) state.old result state.new }
+    requires { FitsDecision decision.now }
+    ensures { Makes (send_to_each (others_of_both old.now new.now me) (ControlOnPaper.Decide decision.now)) state.old result state.new }
 {
     let replicas = both_specs(state.alloc(), old, new, me)?;
     let decision = decision.copy(state.alloc())?;

@@ -14,10 +14,11 @@ ghost use Rattle.crsm_replica_reconfigure.specs.Rules.{FollowsWhere};
 ghost use Rattle.crsm_replica_reconfigure.specs.Stages.{WhereCollecting, WhereGathering};
 
 use crate::beginning::begin_proposing;
-use crsm_base::{Ballot, Control, NoMemory};
+use crsm_base::{Ballot, Control, NoMemory, never};
 use crsm_replica::{ReplicaState, states_are_sound};
 use crsm_replica_coordinator::{Coordinator, Stage};
 use crsm_suspend::{Collect, PageOutcome, got_is_by_the_rules};
+use crsm_wire::is_decision_spelt;
 
 /// The ballot at the beginning of an instance, below each that asks for promises.
 pub(crate) const NO_BALLOT: Ballot = Ballot { round: 0, by: 0 };
@@ -72,6 +73,10 @@ pub(crate) fn go_on(
             Ok(())
         }
         PageOutcome::Complete(decision) => {
+            // The pages had encodings, and their limits are tested.
+            if !is_decision_spelt(&decision) {
+                return Err(never());
+            }
             begin_proposing(state, decision, NO_BALLOT)?;
             Ok(())
         }
@@ -116,7 +121,7 @@ fn ask_page(state: &mut ReplicaState, k: u32) -> Result<(), NoMemory>
     let epoch = state.known();
     let after = state.coordinator().cursor(k);
     let control = Control::Suspend { epoch, after };
-    state.send_control(k, &control)?;
+    state.send_known(k, &control)?;
     Ok(())
 }
 

@@ -8,7 +8,7 @@ ghost use Rattle.crsm_spec.specs.Replica.{spec_of};
 ghost use Rattle.crsm_spec.specs.Draft.{Draft};
 ghost use Rattle.crsm_spec.specs.Coordinate.{count_acceptor};
 ghost use Rattle.crsm_replica.specs.Replica.{ReplicaStands};
-ghost use Rattle.crsm_replica_reconfigure.specs.Rules.{FollowsWhere, receives_no, receives_vote};
+ghost use Rattle.crsm_replica_reconfigure.specs.Rules.{Follows, receives_no, receives_vote};
 ghost use Rattle.crsm_replica_reconfigure.specs.Stages.{TriesTo, WhereProposing};
 
 use crate::choosing::choose;
@@ -25,7 +25,8 @@ pub fn on_p1no(
     ballot: Ballot,
     top: Ballot,
 ) -> Result<(), NoMemory>
-    ensures { FollowsWhere (λ x. FitsBallot top) (receives_no k instance ballot top) state.old result state.new }
+    requires { FitsBallot top }
+    ensures { Follows (receives_no k instance ballot top) state.old result state.new }
 {
     states_are_sound();
     let counts = is_counted(state, k, instance);
@@ -49,7 +50,7 @@ pub fn on_p2b(
     ballot: Ballot,
 ) -> Result<(), NoMemory>
     requires { k < 15 }
-    ensures { FollowsWhere (λ x. FitsBallot ballot) (receives_vote k instance ballot) state.old result state.new }
+    ensures { Follows (receives_vote k instance ballot) state.old result state.new }
 {
     let counts = is_counted(state, k, instance);
     if !counts {

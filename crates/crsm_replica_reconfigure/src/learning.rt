@@ -3,11 +3,11 @@
 ghost use Rattle.std.specs.Prelude.{◌≡◌, ◌<◌, ◌&&◌, nat_lt, nat_le, true, drop, IfOk};
 ghost use Rattle.crsm_base.specs.declared.Rec.{Rec as RecOnPaper};
 ghost use Rattle.crsm_base.specs.Spelling.{FitsDecision, FitsEntries};
-ghost use Rattle.crsm_spec.specs.Draft.{Draft, keep};
+ghost use Rattle.crsm_spec.specs.Draft.{keep};
 ghost use Rattle.crsm_spec.specs.Coordinate.{adopt_tail, advance, learn};
 ghost use Rattle.crsm_spec.specs.Controls.{on_decide, retrieve_base};
-ghost use Rattle.crsm_replica.specs.Replica.{ReplicaStands, Makes};
-ghost use Rattle.crsm_replica_reconfigure.specs.Rules.{FollowsWhere, TriesWhere, MakesWhere};
+ghost use Rattle.crsm_replica.specs.Replica.{Makes, MakesFitting};
+ghost use Rattle.crsm_replica_reconfigure.specs.Rules.{Follows, MakesWhere};
 
 use crate::tails::tail_goes_on;
 use crsm_base::{Decision, Entries, Entry, NoMemory, Rec};
@@ -16,8 +16,9 @@ use std::alloc::Global;
 
 /// Learns a decision from replica `k` if it is of a later epoch. `NoMemory` if memory runs out.
 pub fn on_decide(state: &mut ReplicaState, k: u32, decision: &Decision) -> Result<(), NoMemory>
-    requires { k < 15 }
-    ensures { FollowsWhere (λ x. FitsDecision decision.now) (on_decide k decision.now) state.old result state.new }
+    requires from { k < 15 }
+    requires spelt { FitsDecision decision.now }
+    ensures { Follows (on_decide k decision.now) state.old result state.new }
 {
     states_are_sound();
     let known = state.known();
@@ -35,7 +36,8 @@ pub fn on_decide(state: &mut ReplicaState, k: u32, decision: &Decision) -> Resul
 /// Learns a decision. `false` if its records do not fit, `NoMemory` if memory runs out; with `false` the state is
 /// unchanged.
 pub fn learn(state: &mut ReplicaState, decision: &Decision) -> Result<bool, NoMemory>
-    ensures { TriesWhere (λ x. FitsDecision decision.now) (learn decision.now) state.old result state.new }
+    requires { FitsDecision decision.now }
+    ensures { MakesFitting (learn decision.now) state.old result state.new }
 {
     states_are_sound();
     let goes_on = tail_goes_on(state, decision)?;
@@ -86,11 +88,12 @@ fn is_left(base_len: u64, place: u64, end: u64) -> bool
 /// Executes these entries, whose first one has the index `place`. `false` if that does not fit, `NoMemory` if memory
 /// runs out; with `false` the state is unchanged.
 pub fn adopt(state: &mut ReplicaState, place: u64, entries: &[Entry]) -> Result<bool, NoMemory>
-    ensures { TriesWhere (λ x. FitsEntries entries.now) (keep (RecOnPaper.Adopt place entries.now)) state.old result state.new }
+    requires { FitsEntries entries.now }
+    ensures { MakesFitting (keep (RecOnPaper.Adopt place entries.now)) state.old result state.new }
 {
     let entries = copied(state.alloc(), entries)?;
     let rec = Rec::Adopt { place, entries };
-    let fits = state.keep_known(rec)?;
+    let fits = state.keep(rec)?;
     Ok(fits)
 }
 

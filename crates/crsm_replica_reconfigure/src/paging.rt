@@ -7,7 +7,7 @@ ghost use Rattle.crsm_spec.specs.Draft.{Draft};
 ghost use Rattle.crsm_spec.specs.Controls.{on_retrieve};
 ghost use Rattle.crsm_replica.specs.Replica.{ReplicaStands, Makes};
 ghost use Rattle.crsm_transfer.specs.Fitting.{IsPage};
-ghost use Rattle.crsm_replica_reconfigure.specs.Rules.{FollowsWhere, on_page_in, CanAdopt, send_executed, take_executed};
+ghost use Rattle.crsm_replica_reconfigure.specs.Rules.{Follows, FollowsWhere, on_page_in, CanAdopt, send_executed, take_executed};
 
 use crate::learning::{adopt, advance};
 use crate::tails::rest_goes_on;
@@ -44,7 +44,7 @@ fn send_page(state: &mut ReplicaState, k: u32, from: u64) -> Result<(), NoMemory
     let Some(control) = found else {
         return Ok(());
     };
-    state.send_control(k, &control)?;
+    state.send_known(k, &control)?;
     Ok(())
 }
 
@@ -52,7 +52,8 @@ fn send_page(state: &mut ReplicaState, k: u32, from: u64) -> Result<(), NoMemory
 pub fn on_page(state: &mut ReplicaState, k: u32, page: &Control) -> Result<(), NoMemory>
     requires to { k < 15 }
     requires is { IsPage page.now }
-    ensures { FollowsWhere (λ x. FitsControl page.now) (on_page_in k page.now) state.old result state.new }
+    requires spelt { FitsControl page.now }
+    ensures { Follows (on_page_in k page.now) state.old result state.new }
 {
     let found = fit(state.alloc(), state.ledger(), page)?;
     let Fit::Adopt(entries) = found else {
@@ -64,8 +65,9 @@ pub fn on_page(state: &mut ReplicaState, k: u32, page: &Control) -> Result<(), N
 
 /// Executes the entries, which follow the executed ones, and asks replica `k` for more.
 fn take_entries(state: &mut ReplicaState, k: u32, entries: &Entries) -> Result<(), NoMemory>
-    requires { k < 15 }
-    ensures { FollowsWhere (λ x. FitsEntries entries.now × CanAdopt x entries.now) (take_executed k entries.now) state.old result state.new }
+    requires to { k < 15 }
+    requires spelt { FitsEntries entries.now }
+    ensures { FollowsWhere (λ x. CanAdopt x entries.now) (take_executed k entries.now) state.old result state.new }
 {
     states_are_sound();
     if entries.as_slice().is_empty() {

@@ -7,8 +7,8 @@ ghost use Rattle.crsm_base.specs.declared.Control.{Control as ControlOnPaper};
 ghost use Rattle.crsm_base.specs.declared.Rec.{Rec as RecOnPaper};
 ghost use Rattle.crsm_spec.specs.Draft.{Draft, keep, send_control};
 ghost use Rattle.crsm_spec.specs.Controls.{send_promise, on_p1a, on_p2a};
-ghost use Rattle.crsm_replica.specs.Replica.{ReplicaStands};
-ghost use Rattle.crsm_replica_reconfigure.specs.Rules.{FollowsWhere, MakesWhere, TriesWhere, IsNextOr};
+ghost use Rattle.crsm_replica.specs.Replica.{ReplicaStands, Makes, MakesFitting};
+ghost use Rattle.crsm_replica_reconfigure.specs.Rules.{Follows, IsNextOr};
 
 use crsm_base::{Ballot, Control, Decision, NoMemory, Rec, ballot_precedes, is_same_ballot};
 use crsm_replica::{ReplicaState, states_are_sound};
@@ -20,8 +20,9 @@ pub fn on_p1a(
     instance: u64,
     ballot: Ballot,
 ) -> Result<(), NoMemory>
-    requires { k < 15 }
-    ensures { FollowsWhere (λ x. FitsBallot ballot) (on_p1a k instance ballot) state.old result state.new }
+    requires from { k < 15 }
+    requires ballot { FitsBallot ballot }
+    ensures { Follows (on_p1a k instance ballot) state.old result state.new }
 {
     states_are_sound();
     let is_next = if_next(state, k, instance)?;
@@ -53,8 +54,10 @@ pub fn on_p2a(
     ballot: Ballot,
     decision: &Decision,
 ) -> Result<(), NoMemory>
-    requires { k < 15 }
-    ensures { FollowsWhere (λ x. FitsBallot ballot × FitsDecision decision.now) (on_p2a k instance ballot decision.now) state.old result state.new }
+    requires from { k < 15 }
+    requires ballot { FitsBallot ballot }
+    requires decision { FitsDecision decision.now }
+    ensures { Follows (on_p2a k instance ballot decision.now) state.old result state.new }
 {
     states_are_sound();
     let is_next = if_next(state, k, instance)?;
@@ -88,10 +91,11 @@ pub fn on_p2a(
 /// Records the promise of a ballot. `false` if the record does not fit, `NoMemory` if memory runs out; with `false` the
 /// state is unchanged.
 pub fn promise(state: &mut ReplicaState, instance: u64, ballot: Ballot) -> Result<bool, NoMemory>
-    ensures { TriesWhere (λ x. FitsBallot ballot) (keep (RecOnPaper.Promise instance ballot)) state.old result state.new }
+    requires { FitsBallot ballot }
+    ensures { MakesFitting (keep (RecOnPaper.Promise instance ballot)) state.old result state.new }
 {
     let rec = Rec::Promise { instance, ballot };
-    let fits = state.keep_known(rec)?;
+    let fits = state.keep(rec)?;
     Ok(fits)
 }
 
@@ -103,7 +107,9 @@ pub fn accept(
     ballot: Ballot,
     decision: &Decision,
 ) -> Result<bool, NoMemory>
-    ensures { TriesWhere (λ x. FitsBallot ballot × FitsDecision decision.now) (keep (RecOnPaper.Accept instance ballot decision.now)) state.old result state.new }
+    requires ballot { FitsBallot ballot }
+    requires decision { FitsDecision decision.now }
+    ensures { MakesFitting (keep (RecOnPaper.Accept instance ballot decision.now)) state.old result state.new }
 {
     let decision = decision.copy(state.alloc())?;
     let rec = Rec::Accept {
@@ -111,7 +117,7 @@ pub fn accept(
         ballot,
         decision,
     };
-    let fits = state.keep_known(rec)?;
+    let fits = state.keep(rec)?;
     Ok(fits)
 }
 
@@ -140,8 +146,9 @@ fn send_promise(
     instance: u64,
     ballot: Ballot,
 ) -> Result<(), NoMemory>
-    requires { k < 15 }
-    ensures { MakesWhere (λ x. FitsBallot ballot) (send_promise k instance ballot) state.old result state.new }
+    requires to { k < 15 }
+    requires ballot { FitsBallot ballot }
+    ensures { Makes (send_promise k instance ballot) state.old result state.new }
 {
     states_are_sound();
     let accepted = state.accepted()?;
@@ -162,8 +169,10 @@ fn refuse(
     ballot: Ballot,
     promised: Ballot,
 ) -> Result<(), NoMemory>
-    requires { k < 15 }
-    ensures { MakesWhere (λ x. FitsBallot ballot × FitsBallot promised) (λ x. send_control (ControlOnPaper.P1no instance ballot promised) x k) state.old result state.new }
+    requires to { k < 15 }
+    requires ballot { FitsBallot ballot }
+    requires promised { FitsBallot promised }
+    ensures { Makes (λ x. send_control (ControlOnPaper.P1no instance ballot promised) x k) state.old result state.new }
 {
     let control = Control::P1no {
         instance,
@@ -176,8 +185,9 @@ fn refuse(
 
 /// Sends replica `k` the vote for its ballot's decision.
 fn vote(state: &mut ReplicaState, k: u32, instance: u64, ballot: Ballot) -> Result<(), NoMemory>
-    requires { k < 15 }
-    ensures { MakesWhere (λ x. FitsBallot ballot) (λ x. send_control (ControlOnPaper.P2b instance ballot) x k) state.old result state.new }
+    requires to { k < 15 }
+    requires ballot { FitsBallot ballot }
+    ensures { Makes (λ x. send_control (ControlOnPaper.P2b instance ballot) x k) state.old result state.new }
 {
     let control = Control::P2b { instance, ballot };
     state.send_control(k, &control)?;

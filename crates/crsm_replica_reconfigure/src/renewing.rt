@@ -1,6 +1,8 @@
 //! Retries of a coordinator that proposes or was preempted.
 
 ghost use Rattle.std.specs.Prelude.{◌≡◌, true, IfOk, Some};
+ghost use Rattle.crsm_base.specs.Spelling.{FitsOption};
+ghost use Rattle.crsm_replica_coordinator.specs.Retries.{FitsRetry};
 ghost use Rattle.crsm_spec.specs.Replica.{Coordinator as CoordinatorOnPaper};
 ghost use Rattle.crsm_spec.specs.Coordinate.{accept_own};
 ghost use Rattle.crsm_spec.specs.Step.{renew};
@@ -14,7 +16,6 @@ use crate::proposing::accept_own;
 use crate::sending::send_proposal;
 use crsm_base::{Ballot, Decision, NoMemory};
 use crsm_replica::{ReplicaState, states_are_sound};
-use crsm_replica_coordinator::Coordinator;
 
 /// Retries the proposal: records the replica's own acceptance if missing, then resends the proposal to all that have
 /// not accepted it. `false` if the records do not fit, `NoMemory` if memory runs out; with `false` the state is
@@ -57,12 +58,11 @@ pub fn renew_over(state: &mut ReplicaState) -> Result<bool, NoMemory>
 
 /// Returns the own decision to be proposed again, and the ballot that preempted it, or `None` if there is none.
 fn own_again(state: &ReplicaState) -> Result<Option<(Decision, Ballot)>, NoMemory>
-    ensures { IfOk result (λ found. WherePreempted state.now (λ x own seen. (found ≡ Some (own, seen)) × CanPropose own seen x)) }
+    ensures value { IfOk result (λ found. WherePreempted state.now (λ x own seen. (found ≡ Some (own, seen)) × CanPropose own seen x)) }
+    ensures fits { IfOk result (FitsOption FitsRetry) }
 {
-    match state.coordinator() {
-        Coordinator::Preempted { own, seen } => Ok(Some((own.copy(state.alloc())?, *seen))),
-        _ => Ok(None),
-    }
+    let found = state.coordinator().own_again(state.alloc())?;
+    Ok(found)
 }
 
 /// Records the proposer's own acceptance, whose records must fit, and sends the proposal, if it still exists, to all

@@ -1,6 +1,7 @@
 //! Messages of the ballot in progress to the replicas that have not answered.
 
-ghost use Rattle.std.specs.Prelude.{◌≡◌, IfOk};
+ghost use Rattle.std.specs.Prelude.{◌≡◌, ◌<◌, ◌^◌, IfOk};
+ghost use Rattle.crsm_base.specs.Spelling.{FitsBallot, FitsOption};
 ghost use Rattle.crsm_spec.specs.Replica.{Coordinator as CoordinatorOnPaper};
 ghost use Rattle.crsm_spec.specs.Coordinate.{send_ask, send_proposal};
 ghost use Rattle.crsm_spec.specs.Step.{ask_all};
@@ -8,7 +9,7 @@ ghost use Rattle.crsm_replica.specs.Replica.{ReplicaStands, Makes};
 ghost use Rattle.crsm_replica_coordinator.specs.Coordinator.{WhereStands as WhereCoordinates};
 ghost use Rattle.crsm_replica_reconfigure.specs.Stages.{WherePreparing, round_of};
 
-use crsm_base::{Ballot, Control, NoMemory};
+use crsm_base::{Ballot, Control, Decision, NoMemory};
 use crsm_replica::{ReplicaState, states_are_sound};
 use crsm_replica_coordinator::Coordinator;
 
@@ -71,10 +72,18 @@ pub fn ask_all(state: &mut ReplicaState) -> Result<(), NoMemory>
 /// Returns the instance that the coordinator's own decision is for, and its ballot, or `None` unless it asks for
 /// promises or proposes.
 fn round_in(coordinator: &Coordinator) -> Option<(u64, Ballot)>
-    ensures { WhereCoordinates coordinator.now (λ me n known m. result ≡ round_of m) }
+    ensures value { WhereCoordinates coordinator.now (λ me n known m. result ≡ round_of m) }
+    ensures fits { FitsOption (λ r. (r.0 < 2 ^ 64) × FitsBallot r.1) result }
 {
     match coordinator {
-        Coordinator::Proposing(proposer) => Some((proposer.own().epoch, proposer.ballot())),
+        Coordinator::Proposing(proposer) => Some((instance_of(proposer.own()), proposer.ballot())),
         _ => None,
     }
+}
+
+/// Returns the instance that a decision is for.
+fn instance_of(decision: &Decision) -> u64
+    ensures { result ≡ decision.now.epoch }
+{
+    decision.epoch
 }

@@ -6,8 +6,8 @@ ghost use Rattle.crsm_spec.specs.Draft.{Draft, send_control};
 ghost use Rattle.crsm_spec.specs.Collect.{suspend_ok};
 ghost use Rattle.crsm_spec.specs.Controls.{on_suspend};
 ghost use Rattle.crsm_spec.specs.Coordinate.{suspend_once};
-ghost use Rattle.crsm_replica.specs.Replica.{ReplicaStands, MakesFitting};
-ghost use Rattle.crsm_replica_reconfigure.specs.Rules.{FollowsWhere, MakesWhere};
+ghost use Rattle.crsm_replica.specs.Replica.{Makes, MakesFitting};
+ghost use Rattle.crsm_replica_reconfigure.specs.Rules.{Follows};
 
 use crsm_base::{NoMemory, Rec, Stamp};
 use crsm_replica::{ReplicaState, states_are_sound};
@@ -21,8 +21,9 @@ pub fn on_suspend(
     epoch: u64,
     after: Option<Stamp>,
 ) -> Result<(), NoMemory>
-    requires { k < 15 }
-    ensures { FollowsWhere (λ x. FitsOption FitsStamp after) (on_suspend k epoch after) state.old result state.new }
+    requires from { k < 15 }
+    requires after { FitsOption FitsStamp after }
+    ensures { Follows (on_suspend k epoch after) state.old result state.new }
 {
     states_are_sound();
     let known = state.known();
@@ -54,18 +55,19 @@ pub fn suspend_once(state: &mut ReplicaState) -> Result<bool, NoMemory>
     }
     let epoch = state.known();
     let rec = Rec::Suspend { epoch };
-    let fits = state.keep_known(rec)?;
+    let fits = state.keep(rec)?;
     Ok(fits)
 }
 
 /// Sends replica `k` the first page of the frozen log above a stamp.
 fn send_frozen(state: &mut ReplicaState, k: u32, after: Option<Stamp>) -> Result<(), NoMemory>
-    requires { k < 15 }
-    ensures { MakesWhere (λ x. FitsOption FitsStamp after) (λ x. send_control (suspend_ok x.replica.log after) x k) state.old result state.new }
+    requires to { k < 15 }
+    requires after { FitsOption FitsStamp after }
+    ensures { Makes (λ x. send_control (suspend_ok x.replica.log after) x k) state.old result state.new }
 {
     states_are_sound();
     let _done = state.executed_len();
     let control = page_of(state.alloc(), state.ledger(), after)?;
-    state.send_control(k, &control)?;
+    state.send_known(k, &control)?;
     Ok(())
 }

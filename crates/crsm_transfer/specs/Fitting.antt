@@ -1,6 +1,7 @@
 -- The comparison of a page of executed entries with a log.
 use Rattle.std.specs.Prelude.{ℕ, ◌-◌, ◌==◌, ◌||◌, nat_lt, if◌then◌else◌, List, length, take, drop}
 use Rattle.crsm_spec.specs.Types.{Entry, Control}
+use Rattle.crsm_base.specs.Spelling.{FitsEntries}
 use Rattle.crsm_base.specs.declared.control.Control.TheVariants.{Page}
 use Rattle.crsm_spec.specs.Log.{Log, known, executed, active}
 use Rattle.crsm_spec.specs.Controls.{new_entries}
@@ -25,6 +26,11 @@ fit_of log epoch from es =
     else if nat_lt (length (executed log)) from then Gap
     else if active log || length (new_entries log from es) == 0 then Nothing
     else Adopt (new_entries log from es)
+
+-- the entries to be adopted have an encoding
+abbrev pub FitsAdopted : Fit → Type 0
+FitsAdopted (Adopt es) = FitsEntries es
+FitsAdopted _ = Unit {0}
 
 abbrev pub fit_in : Log → Control → Fit
 fit_in log (Page epoch from es) = fit_of log epoch from es

@@ -2,9 +2,11 @@
 
 ghost use Rattle.std.specs.Prelude.{◌≡◌, ◌≤◌, ℕ, List, drop, take, IfOk};
 ghost use Rattle.crsm_base.specs.declared.Rec.{Rec};
+ghost use Rattle.crsm_base.specs.Messages.{FitsControl};
+ghost use Rattle.crsm_base.specs.Spelling.{FitsEntries};
 ghost use Rattle.crsm_spec.specs.Log.{active};
 ghost use Rattle.crsm_ledger.specs.Ledger.{LedgerStands};
-ghost use Rattle.crsm_transfer.specs.Fitting.{IsPage, fit_in, fit_of, new_above};
+ghost use Rattle.crsm_transfer.specs.Fitting.{FitsAdopted, IsPage, fit_in, fit_of, new_above};
 
 use crate::answer::Fit;
 use crsm_base::{Control, Entries, Entry, NoMemory};
@@ -15,7 +17,8 @@ use std::alloc::Global;
 /// out.
 pub fn fit(alloc: Global, ledger: &Ledger, page: &Control) -> Result<Fit, NoMemory>
     requires { IsPage page.now }
-    ensures { (me n : ℕ) (log : List Rec) → LedgerStands me n ledger.now log → IfOk result (λ fit. fit ≡ fit_in log page.now) }
+    ensures value { (me n : ℕ) (log : List Rec) → LedgerStands me n ledger.now log → IfOk result (λ fit. fit ≡ fit_in log page.now) }
+    ensures fits { FitsControl page.now → IfOk result FitsAdopted }
 {
     match page {
         Control::Page {
@@ -34,7 +37,8 @@ fn fit_entries(
     from: u64,
     entries: &[Entry],
 ) -> Result<Fit, NoMemory>
-    ensures { (me n : ℕ) (log : List Rec) → LedgerStands me n ledger.now log → IfOk result (λ fit. fit ≡ fit_of log known from entries.now) }
+    ensures value { (me n : ℕ) (log : List Rec) → LedgerStands me n ledger.now log → IfOk result (λ fit. fit ≡ fit_of log known from entries.now) }
+    ensures fits { FitsEntries entries.now → IfOk result FitsAdopted }
 {
     let decision = ledger.known();
     let done = ledger.executed_len();
@@ -68,7 +72,8 @@ fn takes_part(ledger: &Ledger) -> bool
 /// is below `base`, only those below `base`.
 fn new_entries(done: u64, base: u64, from: u64, entries: &[Entry]) -> &[Entry]
     requires { from ≤ done }
-    ensures { result.now ≡ new_above done base from entries.now }
+    ensures value { result.now ≡ new_above done base from entries.now }
+    ensures fits { FitsEntries entries.now → FitsEntries result.now }
 {
     let new = behind(entries, done - from);
     if done < base {

@@ -13,19 +13,19 @@ use Rattle.crsm_replica_reconfigure.proofs.ProposeLemmas.{none_proposed}
 use Rattle.crsm_replica_reconfigure.proofs.answering.may_propose_with.Goals as goal
 
 pub returns-in_default : goal.returns-in_default
-returns-in_default c = λ x b own answers s e f h.
+returns-in_default c = λ x b own answers s e h.
     let a : Answer Decision = record { replica = c.args.k; accepted = c.args.accepted.now } in
     let stands = subst (λ z. CoordinatorStands c.coordinator.result.now x.replica.me x.replica.n (decision x.replica.log) z) e (c.coordinator.ensures x s) in
     let found = c.in_ok-found.ensures.value x.replica.me x.replica.n (decision x.replica.log) (Coordinator.Preparing b own answers) stands ∙ proposes_with b own answers a in
     absurd (none_proposed c.in_ok-found.found (b, value_of own (answers ++ a ∷ [])) found c.in_default.is)
 
 pub returns : goal.returns
-returns c = λ x b own answers s e f h.
+returns c = λ x b own answers s e h.
     let a : Answer Decision = record { replica = c.args.k; accepted = c.args.accepted.now } in
     let v = value_of own (answers ++ a ∷ []) in
     let stands = subst (λ z. CoordinatorStands c.coordinator.result.now x.replica.me x.replica.n (decision x.replica.log) z) e (c.coordinator.ensures x s) in
     let found = c.in_ok-found.ensures.value x.replica.me x.replica.n (decision x.replica.log) (Coordinator.Preparing b own answers) stands ∙ proposes_with b own answers a in
-    let spelt = subst (λ o. FitsOption FitsVote o) c.in-Some.is (c.in_ok-found.ensures.spelt x.replica.me x.replica.n (decision x.replica.log) (Coordinator.Preparing b own answers) stands f) in
+    let spelt = subst (λ o. FitsOption FitsVote o) c.in-Some.is c.in_ok-found.ensures.fits in
     let ballot = same_round c.in_ok-found.found c.in-Some.ballot b c.in-Some.value v c.in-Some.is found in
     let decided = same_value c.in_ok-found.found c.in-Some.ballot b c.in-Some.value v c.in-Some.is found in
     c.in_ok-fits.ensures x own [] s spelt.1 (c.in_ok-is_alone.ensures x s)

@@ -5,16 +5,16 @@ use Rattle.crsm_replica_reconfigure.proofs.DraftLemmas.{does_nothing, instead, a
 use Rattle.crsm_replica_reconfigure.proofs.answering.on_p1b.Goals as goal
 
 pub returns-then-not-counts : goal.returns-then-not-counts
-returns-then-not-counts c = λ x s f.
+returns-then-not-counts c = λ x s.
     does_nothing c.args.state.now x _ (answer_ignored c.args.k c.args.instance c.args.ballot c.args.accepted.now x (and_none _ _ (sym (c.is_counted-counts.ensures x s) ∙ c.if-not-counts.true))) s
 
 pub returns-then-not-takes : goal.returns-then-not-takes
-returns-then-not-takes c = λ x s f.
+returns-then-not-takes c = λ x s.
     does_nothing c.args.state.now x _ (answer_ignored c.args.k c.args.instance c.args.ballot c.args.accepted.now x (and_no _ _
     (sym (c.takes_answer-takes.ensures x.replica.me x.replica.n (decision x.replica.log) x.replica.coordinator (c.coordinator.ensures x s)) ∙ c.if-not-takes.true))) s
 
 pub returns : goal.returns
-returns c = λ x s f.
+returns c = λ x s.
     let a = answer_counts c.args.k c.args.instance c.args.ballot c.args.accepted.now x (sym (c.is_counted-counts.ensures x s) ∙ c.if-not-counts.false)
     (sym (c.takes_answer-takes.ensures x.replica.me x.replica.n (decision x.replica.log) x.replica.coordinator (c.coordinator.ensures x s)) ∙ c.if-not-takes.false) in
-    instead c.count_answer.new.state x _ _ (sym a.rule) (c.in_ok-count_answer.ensures x a.c a.own a.answers s a.is a.counted a.first f.1)
+    instead c.count_answer.new.state x _ _ (sym a.rule) (c.in_ok-count_answer.ensures x a.c a.own a.answers s a.is a.counted a.first)

@@ -11,22 +11,22 @@ use Rattle.crsm_replica_reconfigure.proofs.beginning.may_begin.Goals as goal
 
 pub returns-then-top : goal.returns-then-top
 returns-then-top c = λ x y s p a.
-    let top = c.greater-top.ensures ∙ ap (λ b. greater_ballot b c.args.seen) (c.promised.ensures x s) in
+    let top = c.greater-top.ensures ∙ ap (λ b. greater_ballot b c.args.seen) (c.promised.ensures.value x s) in
     fits_spent c.args.own.now c.args.seen c.greater-top.result x y (c.states_are_sound.ensures c.args.state.now x s) p a top (eq-eqb c.greater-top.result.round u64_max c.if-top.true)
 
 pub returns-then-not-is_alone : goal.returns-then-not-is_alone
 returns-then-not-is_alone c = λ x y s p a.
-    let top = c.greater-top.ensures ∙ ap (λ b. greater_ballot b c.args.seen) (c.promised.ensures x s) in
+    let top = c.greater-top.ensures ∙ ap (λ b. greater_ballot b c.args.seen) (c.promised.ensures.value x s) in
     fits_asking c.args.own.now c.args.seen c.greater-top.result x y (c.states_are_sound.ensures c.args.state.now x s) p a top (round_left c.greater-top.result c.if-top.false)
     (sym (c.in_ok-is_alone.ensures x s) ∙ c.if-not-is_alone.true)
 
 pub returns : goal.returns
 returns c = λ x y s p a.
     let sound = c.states_are_sound.ensures c.args.state.now x s in
-    let top = c.greater-top.ensures ∙ ap (λ b. greater_ballot b c.args.seen) (c.promised.ensures x s) in
+    let top = c.greater-top.ensures ∙ ap (λ b. greater_ballot b c.args.seen) (c.promised.ensures.value x s) in
     let alone = sym (c.in_ok-is_alone.ensures x s) ∙ c.if-not-is_alone.false in
-    let value = c.value_alone-value.ensures x.replica.me ∙ ap (λ h. value_of c.args.own.now (record { replica = x.replica.me; accepted = h } ∷ [])) (c.in_ok-accepted.ensures x s) in
-    let ballot : c.above-ballot.result ≡ after c.greater-top.result x.replica.me = c.above-ballot.ensures ∙ ap (after c.greater-top.result) (c.me.ensures.value x s) in
+    let value = c.value_alone-value.ensures x.replica.me ∙ ap (λ h. value_of c.args.own.now (record { replica = x.replica.me; accepted = h } ∷ [])) (c.in_ok-accepted.ensures.value x s) in
+    let ballot : c.above-ballot.result ≡ after c.greater-top.result x.replica.me = c.above-ballot.ensures.value ∙ ap (after c.greater-top.result) (c.me.ensures.value x s) in
     let spelt = value_spelt x.replica.me c.args.own.now (accepted x.replica.log) p.0.spelt (accepted_fits x.replica.log sound.spelt) in
     c.in_ok-fits.ensures x c.args.own.now [] s (subst (λ d. FitsDecision d) (sym value) spelt) (sym alone)
     ∙ fits_alone c.args.own.now c.args.seen c.greater-top.result x y sound p a top c.above-ballot.result c.value_alone-value.result.now (round_left c.greater-top.result c.if-top.false) alone ballot value

@@ -14,4 +14,4 @@ returns c = λ x ms pages s e.
     let known = c.known-epoch.ensures x s in
     let small : c.known-epoch.result < 2 ^ 64 = omega arith in
     let spelt = subst (λ o. FitsOption FitsStamp o) (sym after) (asked_fits x x.replica.me x.replica.n g.0 ms pages c.args.k g.1) in
-    subst (λ y. ReplicaStands c.send_control.new.self y) (ask_as pages x c.args.k c.known-epoch.result c.cursor-after.result known after) (c.in_ok-send_control.ensures x s (small, spelt))
+    subst (λ y. ReplicaStands c.send_known.new.self y) (ask_as pages x c.args.k c.known-epoch.result c.cursor-after.result known after) (c.in_ok-send_known.ensures x s (small, spelt))

@@ -6,47 +6,61 @@ use Rattle.crsm_replica_reconfigure.proofs.DraftLemmas.{instead, is_whole}
 use Rattle.crsm_replica_reconfigure.proofs.ControlLemmas.{a_suspend, a_question, a_promise, a_refusal, a_proposal, a_vote, a_decision, a_retrieve, a_page, asked_fitting}
 use Rattle.crsm_replica_reconfigure.proofs.controls.on_control.Goals as goal
 
+pub on_suspend-requires-clause-after : goal.on_suspend-requires-clause-after
+on_suspend-requires-clause-after c = (subst FitsControl c.in-Suspend.is c.requires.spelt).1
+
 pub returns-in_ok-on_suspend-in-Suspend : goal.returns-in_ok-on_suspend-in-Suspend
 returns-in_ok-on_suspend-in-Suspend c = λ x s n.
-    let fit = subst FitsControl c.in-Suspend.is c.requires.spelt in
     instead c.on_suspend.new.state x _ _ (a_suspend c.args.k c.in-Suspend.epoch c.in-Suspend.after x ∙ ap (λ m. on_control c.args.k m x) (sym c.in-Suspend.is))
-    (c.in_ok-on_suspend-in-Suspend.ensures x s fit.1)
+    (c.in_ok-on_suspend-in-Suspend.ensures x s)
+
+pub on_p1a-requires-clause-ballot : goal.on_p1a-requires-clause-ballot
+on_p1a-requires-clause-ballot c = (subst FitsControl c.in-P1a.is c.requires.spelt).1
 
 pub returns-in_ok-on_p1a-in-P1a : goal.returns-in_ok-on_p1a-in-P1a
 returns-in_ok-on_p1a-in-P1a c = λ x s n.
-    let fit = subst FitsControl c.in-P1a.is c.requires.spelt in
     instead c.on_p1a.new.state x _ _ (a_question c.args.k c.in-P1a.instance c.in-P1a.ballot x ∙ ap (λ m. on_control c.args.k m x) (sym c.in-P1a.is))
-    (c.in_ok-on_p1a-in-P1a.ensures x s fit.1)
+    (c.in_ok-on_p1a-in-P1a.ensures x s)
+
+pub on_p1b-requires-clause-spelt : goal.on_p1b-requires-clause-spelt
+on_p1b-requires-clause-spelt c = (subst FitsControl c.in-P1b.is c.requires.spelt).2
 
 pub returns-in_ok-on_p1b-in-P1b : goal.returns-in_ok-on_p1b-in-P1b
 returns-in_ok-on_p1b-in-P1b c = λ x s n.
-    let fit = subst FitsControl c.in-P1b.is c.requires.spelt in
     instead c.on_p1b.new.state x _ _ (a_promise c.args.k c.in-P1b.instance c.in-P1b.ballot c.in-P1b.accepted x ∙ ap (λ m. on_control c.args.k m x) (sym c.in-P1b.is))
-    (c.in_ok-on_p1b-in-P1b.ensures x s (fit.1, fit.2))
+    (c.in_ok-on_p1b-in-P1b.ensures x s)
+
+pub on_p1no-requires : goal.on_p1no-requires
+on_p1no-requires c = (subst FitsControl c.in-P1no.is c.requires.spelt).2
 
 pub returns-in_ok-on_p1no-in-P1no : goal.returns-in_ok-on_p1no-in-P1no
 returns-in_ok-on_p1no-in-P1no c = λ x s n.
-    let fit = subst FitsControl c.in-P1no.is c.requires.spelt in
     instead c.on_p1no.new.state x _ _ (a_refusal c.args.k c.in-P1no.instance c.in-P1no.ballot c.in-P1no.promised x ∙ ap (λ m. on_control c.args.k m x) (sym c.in-P1no.is))
-    (c.in_ok-on_p1no-in-P1no.ensures x s fit.2)
+    (c.in_ok-on_p1no-in-P1no.ensures x s)
+
+pub on_p2a-requires-clause-ballot : goal.on_p2a-requires-clause-ballot
+on_p2a-requires-clause-ballot c = (subst FitsControl c.in-P2a.is c.requires.spelt).1
+
+pub on_p2a-requires-clause-decision : goal.on_p2a-requires-clause-decision
+on_p2a-requires-clause-decision c = (subst FitsControl c.in-P2a.is c.requires.spelt).2
 
 pub returns-in_ok-on_p2a-in-P2a : goal.returns-in_ok-on_p2a-in-P2a
 returns-in_ok-on_p2a-in-P2a c = λ x s n.
-    let fit = subst FitsControl c.in-P2a.is c.requires.spelt in
     instead c.on_p2a.new.state x _ _ (a_proposal c.args.k c.in-P2a.instance c.in-P2a.ballot c.in-P2a.decision x ∙ ap (λ m. on_control c.args.k m x) (sym c.in-P2a.is))
-    (c.in_ok-on_p2a-in-P2a.ensures x s (fit.1, fit.2))
+    (c.in_ok-on_p2a-in-P2a.ensures x s)
 
 pub returns-in_ok-on_p2b-in-P2b : goal.returns-in_ok-on_p2b-in-P2b
 returns-in_ok-on_p2b-in-P2b c = λ x s n.
-    let fit = subst FitsControl c.in-P2b.is c.requires.spelt in
     instead c.on_p2b.new.state x _ _ (a_vote c.args.k c.in-P2b.instance c.in-P2b.ballot x ∙ ap (λ m. on_control c.args.k m x) (sym c.in-P2b.is))
-    (c.in_ok-on_p2b-in-P2b.ensures x s fit.1)
+    (c.in_ok-on_p2b-in-P2b.ensures x s)
+
+pub on_decide-requires-clause-spelt : goal.on_decide-requires-clause-spelt
+on_decide-requires-clause-spelt c = subst FitsControl c.in-Decide.is c.requires.spelt
 
 pub returns-in_ok-on_decide-in-Decide : goal.returns-in_ok-on_decide-in-Decide
 returns-in_ok-on_decide-in-Decide c = λ x s n.
-    let fit = subst FitsControl c.in-Decide.is c.requires.spelt in
     instead c.on_decide.new.state x _ _ (a_decision c.args.k c.in-Decide.decision x ∙ ap (λ m. on_control c.args.k m x) (sym c.in-Decide.is))
-    (c.in_ok-on_decide-in-Decide.ensures x s fit)
+    (c.in_ok-on_decide-in-Decide.ensures x s)
 
 pub returns-in_ok-on_retrieve-in-Retrieve : goal.returns-in_ok-on_retrieve-in-Retrieve
 returns-in_ok-on_retrieve-in-Retrieve c = λ x s n.
@@ -59,4 +73,4 @@ returns-in_ok-on_page-in-Page c = λ x s n.
     instead c.on_page.new.state x _ _
     (ap (λ m. on_page_in c.args.k m x) c.in-Page.is ∙ a_page c.args.k c.in-Page.known c.in-Page.from c.in-Page.entries x
     ∙ ap (λ m. on_control c.args.k m x) (sym c.in-Page.is))
-    (c.in_ok-on_page-in-Page.ensures x s c.requires.spelt)
+    (c.in_ok-on_page-in-Page.ensures x s)

@@ -7,9 +7,12 @@ use Rattle.crsm_spec.specs.Step.{if_fitting}
 use Rattle.crsm_replica.specs.Replica.{ReplicaStands}
 use Rattle.crsm_replica_reconfigure.proofs.learning.adopt.Goals as goal
 
-pub returns : goal.returns
-returns c = λ x s f.
-    let copy : c.in_ok-entries.entries ≡ c.args.entries.now = c.in_ok-entries.ensures in
+pub keep-requires-clause-spelt : goal.keep-requires-clause-spelt
+keep-requires-clause-spelt c =
     let small : c.args.place < 2 ^ 64 = omega arith in
-    let k = c.in_ok-fits.ensures x s (small, subst (λ es. FitsEntries es) (sym copy) f) in
-    subst (λ es. (c.in_ok-fits.fits ≡ (keep (Rec.Adopt c.args.place es) x).fitting) × ReplicaStands c.keep_known.new.self (if_fitting x (keep (Rec.Adopt c.args.place es) x))) copy k
+    (small, subst FitsEntries (sym c.in_ok-entries.ensures) c.requires)
+
+pub returns : goal.returns
+returns c = λ x s.
+    let copy : c.in_ok-entries.entries ≡ c.args.entries.now = c.in_ok-entries.ensures in
+    subst (λ es. (c.in_ok-fits.fits ≡ (keep (Rec.Adopt c.args.place es) x).fitting) × ReplicaStands c.keep.new.self (if_fitting x (keep (Rec.Adopt c.args.place es) x))) copy (c.in_ok-fits.ensures x s)

@@ -16,4 +16,4 @@ returns c = λ x s.
     let p = page_there c.args.k c.args.from x c.in-Some.control (sym c.in-Some.is ∙ c.in_ok-found.ensures x.replica.me x.replica.n x.replica.log (c.ledger.ensures.stands x s)) in
     let small : c.args.from < 2 ^ 64 = omega arith in
     let f : FitsControl c.in-Some.control = subst (λ m. FitsControl m) (sym p.0) (page_spelt x c.args.from (c.states_are_sound.ensures c.args.state.now x s) small) in
-    subst (λ y. ReplicaStands c.send_control.new.self y) (ap (λ m. send_control m x c.args.k) p.0 ∙ sym p.1) (c.in_ok-send_control.ensures x s f)
+    subst (λ y. ReplicaStands c.send_known.new.self y) (ap (λ m. send_control m x c.args.k) p.0 ∙ sym p.1) (c.in_ok-send_known.ensures x s f)

@@ -1,7 +1,8 @@
 use Rattle.std.proofs.Common.{◌≡◌, ◌∙◌, sym, subst, ap, true, length}
 use Rattle.std.specs.Prelude.{Some, ◌&&◌, nat_le, not}
 use Rattle.crsm_base.specs.Order.{ballot_lt}
-use Rattle.crsm_base.specs.Spelling.{FitsBallot, FitsDecision}
+use Rattle.crsm_base.specs.Messages.{FitsVote}
+use Rattle.crsm_base.specs.Spelling.{FitsOption}
 use Rattle.crsm_spec.specs.Types.{Decision, Rec}
 use Rattle.crsm_spec.specs.Log.{decision, executed}
 use Rattle.crsm_spec.specs.Draft.{Draft, keep, noting}
@@ -12,7 +13,6 @@ use Rattle.crsm_spec.specs.Quorum.{spec_decided}
 use Rattle.crsm_replica_coordinator.specs.Coordinator.{CoordinatorStands, proposal_of, preempted_by}
 use Rattle.crsm_replica.specs.Replica.{ReplicaStands}
 use Rattle.crsm_replica_reconfigure.proofs.ProposeLemmas.{accepted_next, own_preempted, own_waits, own_accepts, count_monotone, kept_coordinator, accepted_spec, none_proposed, kept_me}
-use Rattle.crsm_fact_log.proofs.LogsFit.{promised_fits}
 use Rattle.crsm_replica_coordinator.proofs.Coordinators.{proposing_mine}
 use Rattle.crsm_replica_reconfigure.proofs.ChoiceLemmas.{same_value, same_round, noted_twice, spec_is}
 use Rattle.crsm_replica_reconfigure.proofs.DraftLemmas.{was_whole}
@@ -32,12 +32,11 @@ returns-then-ballot_precedes c = λ x b own value acceptors s e f.
     let found : c.in_ok-found.found ≡ Some (b, value) = c.in_ok-found.ensures.value x.replica.me x.replica.n (decision x.replica.log) m stands in
     let ballot : c.in-Some.ballot ≡ b = same_round c.in_ok-found.found c.in-Some.ballot b c.in-Some.value value c.in-Some.is found in
     let decided : c.in-Some.value ≡ value = same_value c.in_ok-found.found c.in-Some.ballot b c.in-Some.value value c.in-Some.is found in
-    let top = c.promised-top.ensures x s in
+    let top = c.promised-top.ensures.value x s in
     let below : ballot_lt c.in-Some.ballot c.promised-top.result ≡ ballot_lt b c.promised-top.result = ap (λ z. ballot_lt z c.promised-top.result) ballot in
     let rule = own_preempted b c.promised-top.result own value acceptors x top (sym below ∙ sym c.ballot_precedes.ensures ∙ c.if-ballot_precedes.true) in
     let taken = subst (λ z. CoordinatorStands c.take_coordinator-coordinator.result x.replica.me x.replica.n (decision x.replica.log) z) e (c.take_coordinator-coordinator.ensures.coordinator x s) in
-    let spelt = subst (λ z. FitsBallot z) (sym top) (promised_fits x.replica.log (c.states_are_sound.ensures c.args.state.now x s).spelt) in
-    let over = c.preempted.ensures x.replica.me x.replica.n (decision x.replica.log) m taken spelt in
+    let over = c.preempted.ensures x.replica.me x.replica.n (decision x.replica.log) m taken in
     let set = c.set_coordinator.ensures (noting Coordinator.Idle x) (Coordinator.Preempted own c.promised-top.result) (c.take_coordinator-coordinator.ensures.quiet x s) over in
     subst (λ y. ReplicaStands c.set_coordinator.new.self y) (noted_twice (Coordinator.Preempted own c.promised-top.result) x ∙ sym rule) set
 
@@ -49,12 +48,18 @@ returns-then-not-is_due c = λ x b own value acceptors s e f.
     let found : c.in_ok-found.found ≡ Some (b, value) = c.in_ok-found.ensures.value x.replica.me x.replica.n (decision x.replica.log) m stands in
     let ballot : c.in-Some.ballot ≡ b = same_round c.in_ok-found.found c.in-Some.ballot b c.in-Some.value value c.in-Some.is found in
     let decided : c.in-Some.value ≡ value = same_value c.in_ok-found.found c.in-Some.ballot b c.in-Some.value value c.in-Some.is found in
-    let top = c.promised-top.ensures x s in
+    let top = c.promised-top.ensures.value x s in
     let below : ballot_lt c.in-Some.ballot c.promised-top.result ≡ ballot_lt b c.promised-top.result = ap (λ z. ballot_lt z c.promised-top.result) ballot in
     let due : (nat_le c.in-Some.value.base_len (length (executed x.replica.log)) && not (has_accepted c.in-Some.ballot x)) ≡ (nat_le value.base_len (length (executed x.replica.log)) && not (has_accepted b x)) =
     ap (λ (d : Decision). nat_le d.base_len (length (executed x.replica.log)) && not (has_accepted c.in-Some.ballot x)) decided ∙ ap (λ z. nat_le value.base_len (length (executed x.replica.log)) && not (has_accepted z x)) ballot in
     let rule = own_waits b c.promised-top.result own value acceptors x top (sym below ∙ sym c.ballot_precedes.ensures ∙ c.if-ballot_precedes.false) (sym due ∙ sym (c.is_due-is_due.ensures x s) ∙ c.if-not-is_due.true) in
     subst (λ y. ReplicaStands c.args.state.now y) (sym rule) s
+
+pub accept-requires-clause-ballot : goal.accept-requires-clause-ballot
+accept-requires-clause-ballot c = (subst (FitsOption FitsVote) c.in-Some.is c.in_ok-found.ensures.fits).0
+
+pub accept-requires-clause-decision : goal.accept-requires-clause-decision
+accept-requires-clause-decision c = (subst (FitsOption FitsVote) c.in-Some.is c.in_ok-found.ensures.fits).1
 
 pub returns : goal.returns
 unfolding proposal_of
@@ -64,7 +69,7 @@ returns c = λ x b own value acceptors s e f.
     let found : c.in_ok-found.found ≡ Some (b, value) = c.in_ok-found.ensures.value x.replica.me x.replica.n (decision x.replica.log) m stands in
     let ballot : c.in-Some.ballot ≡ b = same_round c.in_ok-found.found c.in-Some.ballot b c.in-Some.value value c.in-Some.is found in
     let decided : c.in-Some.value ≡ value = same_value c.in_ok-found.found c.in-Some.ballot b c.in-Some.value value c.in-Some.is found in
-    let top = c.promised-top.ensures x s in
+    let top = c.promised-top.ensures.value x s in
     let below : ballot_lt c.in-Some.ballot c.promised-top.result ≡ ballot_lt b c.promised-top.result = ap (λ z. ballot_lt z c.promised-top.result) ballot in
     let due : (nat_le c.in-Some.value.base_len (length (executed x.replica.log)) && not (has_accepted c.in-Some.ballot x)) ≡ (nat_le value.base_len (length (executed x.replica.log)) && not (has_accepted b x)) =
     ap (λ (d : Decision). nat_le d.base_len (length (executed x.replica.log)) && not (has_accepted c.in-Some.ballot x)) decided ∙ ap (λ z. nat_le value.base_len (length (executed x.replica.log)) && not (has_accepted z x)) ballot in
@@ -75,7 +80,7 @@ returns c = λ x b own value acceptors s e f.
     let next : c.in-Some.value.epoch ≡ instance x = ap (λ (d : Decision). d.epoch) decided ∙ accepted_next x b value fit in
     let same : keep (Rec.Accept c.in-Some.value.epoch c.in-Some.ballot c.in-Some.value) x ≡ z =
     ap (λ i. keep (Rec.Accept i c.in-Some.ballot c.in-Some.value) x) next ∙ ap (λ q. keep (Rec.Accept (instance x) q c.in-Some.value) x) ballot ∙ ap (λ d. keep (Rec.Accept (instance x) b d) x) decided in
-    let kept = c.in_ok-accept.ensures x s (subst (λ q. FitsBallot q) (sym ballot) mine.1, subst (λ d. FitsDecision d) (sym decided) mine.2) in
+    let kept = c.in_ok-accept.ensures x s in
     let mid = subst (λ y. ReplicaStands c.accept.new.state y) same (was_whole c.accept.new.state x _ (ap (λ y. y.fitting) same ∙ fit) kept.1) in
     let me : c.me-me.result ≡ x.replica.me = c.me-me.ensures.value z mid ∙ kept_me (Rec.Accept (instance x) b value) x in
     let counted : has (spec_of z.replica) c.me-me.result ≡ true =

@@ -1,5 +1,4 @@
-use Rattle.std.proofs.Common.{◌∙◌, ◌<◌, sym, subst, arith}
-use Rattle.std.specs.Prelude.{◌^◌}
+use Rattle.std.proofs.Common.{◌∙◌, sym, subst}
 use Rattle.crsm_replica.specs.Replica.{ReplicaStands}
 use Rattle.crsm_replica_reconfigure.proofs.ProposeLemmas.{active_asks, all_asked}
 use Rattle.crsm_replica_reconfigure.proofs.sending.ask_all.Goals as goal
@@ -9,8 +8,6 @@ returns-then-is_active c = λ x s. subst (λ y. ReplicaStands c.args.state.now y
 
 pub returns : goal.returns
 returns c = λ x s.
-    let known_fits : c.known-known.result < 2 ^ 64 = omega arith in
-    let from_fits : c.executed_len-from.result < 2 ^ 64 = omega arith in
     subst (λ y. ReplicaStands c.send_to_all.new.self y)
     (all_asked x c.known-known.result c.executed_len-from.result (sym (c.is_active-is_active.ensures x s) ∙ c.if-is_active.false) (c.known-known.ensures x s) (c.executed_len-from.ensures x s))
-    (c.in_ok-send_to_all.ensures x s (known_fits, from_fits))
+    (c.in_ok-send_to_all.ensures x s)

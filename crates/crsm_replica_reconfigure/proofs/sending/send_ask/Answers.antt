@@ -1,6 +1,7 @@
-use Rattle.std.proofs.Common.{◌≡◌, ◌∙◌, ◌<◌, sym, subst}
+use Rattle.std.proofs.Common.{◌≡◌, ◌∙◌, ℕ, ◌<◌, subst}
 use Rattle.std.specs.Prelude.{◌^◌, Some}
-use Rattle.crsm_base.specs.Spelling.{FitsBallot}
+use Rattle.crsm_base.specs.Spelling.{FitsBallot, FitsOption}
+use Rattle.crsm_spec.specs.Types.{Ballot}
 use Rattle.crsm_spec.specs.Log.{decision}
 use Rattle.crsm_spec.specs.Replica.{Coordinator}
 use Rattle.crsm_replica_coordinator.specs.Coordinator.{CoordinatorStands}
@@ -13,8 +14,12 @@ use Rattle.crsm_replica_reconfigure.proofs.sending.send_ask.Goals as goal
 pub returns-in_default : goal.returns-in_default
 unfolding round_of
 returns-in_default c = λ x b own answers s e.
-    let found : c.round_in-found.result ≡ Some (own.epoch, b) = c.round_in-found.ensures x.replica.me x.replica.n (decision x.replica.log) (Coordinator.Preparing b own answers) (subst (λ z. CoordinatorStands c.coordinator.result.now x.replica.me x.replica.n (decision x.replica.log) z) e (c.coordinator.ensures x s)) in
+    let found : c.round_in-found.result ≡ Some (own.epoch, b) = c.round_in-found.ensures.value x.replica.me x.replica.n (decision x.replica.log) (Coordinator.Preparing b own answers) (subst (λ z. CoordinatorStands c.coordinator.result.now x.replica.me x.replica.n (decision x.replica.log) z) e (c.coordinator.ensures x s)) in
     absurd (none_proposed c.round_in-found.result (own.epoch, b) found c.in_default.is)
+
+pub send_to_each-requires-clause-spelt : goal.send_to_each-requires-clause-spelt
+send_to_each-requires-clause-spelt c =
+    subst (FitsOption (λ (r : ℕ × Ballot). (r.0 < 2 ^ 64) × FitsBallot r.1)) c.in-Some.is c.round_in-found.ensures.fits
 
 pub returns : goal.returns
 unfolding round_of
@@ -23,12 +28,12 @@ returns c = λ x b own answers s e.
     let stands = subst (λ z. CoordinatorStands c.coordinator.result.now x.replica.me x.replica.n (decision x.replica.log) z) e (c.coordinator.ensures x s) in
     let again = subst (λ z. CoordinatorStands c.coordinator-2.result.now x.replica.me x.replica.n (decision x.replica.log) z) e (c.coordinator-2.ensures x s) in
     let mine = asking_mine x.replica.me x.replica.n (decision x.replica.log) c.coordinator.result.now b own answers stands in
-    let found : c.round_in-found.result ≡ Some (own.epoch, b) = c.round_in-found.ensures x.replica.me x.replica.n (decision x.replica.log) m stands in
+    let found : c.round_in-found.result ≡ Some (own.epoch, b) = c.round_in-found.ensures.value x.replica.me x.replica.n (decision x.replica.log) m stands in
     let both = rounds_same c.round_in-found.result c.in-Some.instance own.epoch c.in-Some.ballot b c.in-Some.is found in
     let own_is : c.in-Some.instance ≡ own.epoch = both.0 in
     let same : c.in-Some.ballot ≡ b = both.1 in
     let next = own_is ∙ own_next x x.replica.me x.replica.n own mine.0 in
-    let sent = c.in_ok-send_to_each.ensures x s (subst (λ i. i < 2 ^ 64) (sym own_is) mine.0.spelt.epoch, subst (λ z. FitsBallot z) (sym same) mine.1) in
+    let sent = c.in_ok-send_to_each.ensures x s in
     subst (λ y. ReplicaStands c.send_to_each.new.self y)
     (ask_as b own answers x c.in-Some.ballot c.in-Some.instance c.deref.result.now c.deref-2.result.now same next (c.deref.ensures.value ∙ c.in_ok-others.ensures.value x s)
     (c.deref-2.ensures.value ∙ c.in_ok-missing.ensures.value x.replica.me x.replica.n (decision x.replica.log) m again)) sent

@@ -1,5 +1,8 @@
-use Rattle.std.proofs.Common.{◌≡◌, ◌∙◌, ◌<◌, refl, sym, subst, ap}
+use Rattle.std.proofs.Common.{◌≡◌, ◌∙◌, ℕ, ◌<◌, refl, sym, subst, ap}
 use Rattle.std.specs.Prelude.{◌^◌, None}
+use Rattle.crsm_base.specs.Messages.{FitsVote}
+use Rattle.crsm_base.specs.Spelling.{FitsBallot, FitsOption}
+use Rattle.crsm_spec.specs.Types.{Ballot}
 use Rattle.crsm_spec.specs.Log.{decision}
 use Rattle.crsm_spec.specs.Replica.{Coordinator}
 use Rattle.crsm_spec.specs.Coordinate.{send_proposal}
@@ -11,13 +14,19 @@ use Rattle.crsm_replica_reconfigure.proofs.sending.send_proposal.Goals as goal
 
 pub returns-in_default : goal.returns-in_default
 returns-in_default c = λ x s.
-    let none = no_round x.replica.coordinator (sym (c.round_in-round.ensures x.replica.me x.replica.n (decision x.replica.log) x.replica.coordinator (c.coordinator.ensures x s)) ∙ c.in_default.is) in
+    let none = no_round x.replica.coordinator (sym (c.round_in-round.ensures.value x.replica.me x.replica.n (decision x.replica.log) x.replica.coordinator (c.coordinator.ensures x s)) ∙ c.in_default.is) in
     subst (λ y. ReplicaStands c.args.state.now y) (sym (none_told x.replica.coordinator x none)) s
 
 pub returns-in_default-found : goal.returns-in_default-found
 returns-in_default-found c = λ x s.
     let none : proposal_of x.replica.coordinator ≡ None = sym (c.in_ok-found.ensures.value x.replica.me x.replica.n (decision x.replica.log) x.replica.coordinator (c.coordinator-2.ensures x s)) ∙ c.in_default-found.is in
     subst (λ y. ReplicaStands c.args.state.now y) (sym (none_told x.replica.coordinator x none)) s
+
+pub send_to_each-requires-clause-spelt : goal.send_to_each-requires-clause-spelt
+send_to_each-requires-clause-spelt c =
+    let round = subst (FitsOption (λ (r : ℕ × Ballot). (r.0 < 2 ^ 64) × FitsBallot r.1)) c.in-Some.is c.round_in-round.ensures.fits in
+    let vote = subst (FitsOption FitsVote) c.in-Some-found.is c.in_ok-found.ensures.fits in
+    (round.0, vote.0, vote.1)
 
 pub returns : goal.returns
 returns c = λ x s.
@@ -28,9 +37,9 @@ returns c = λ x s.
     let again = subst (λ z. CoordinatorStands c.coordinator-3.result.now x.replica.me x.replica.n (decision x.replica.log) z) p.is (c.coordinator-3.ensures x s) in
     let mine = proposing_mine x.replica.me x.replica.n (decision x.replica.log) c.coordinator.result.now c.in-Some-found.ballot p.own c.in-Some-found.decision p.acceptors stands in
     let own_is : c.in-Some.instance ≡ p.own.epoch = round_is c.in-Some-found.ballot p.own c.in-Some-found.decision p.acceptors c.in-Some.instance _
-    (sym (c.round_in-round.ensures x.replica.me x.replica.n (decision x.replica.log) m stands) ∙ c.in-Some.is) in
+    (sym (c.round_in-round.ensures.value x.replica.me x.replica.n (decision x.replica.log) m stands) ∙ c.in-Some.is) in
     let next = own_is ∙ own_next x x.replica.me x.replica.n p.own mine.0 in
-    let sent = c.in_ok-send_to_each.ensures x s (subst (λ i. i < 2 ^ 64) (sym own_is) mine.0.spelt.epoch, mine.1, mine.2) in
+    let sent = c.in_ok-send_to_each.ensures x s in
     subst (λ y. ReplicaStands c.send_to_each.new.self y)
     (proposal_as c.in-Some-found.ballot p.own c.in-Some-found.decision p.acceptors x c.in-Some-found.ballot c.in-Some-found.decision c.in-Some.instance c.deref.result.now c.deref-2.result.now refl refl next
     (c.deref.ensures.value ∙ c.in_ok-others.ensures.value x s) (c.deref-2.ensures.value ∙ c.in_ok-missing.ensures.value x.replica.me x.replica.n (decision x.replica.log) m again)

@@ -1,5 +1,4 @@
-use Rattle.std.proofs.Common.{◌≡◌, ◌∙◌, ◌<◌, sym, subst, ap, arith, true}
-use Rattle.std.specs.Prelude.{◌^◌}
+use Rattle.std.proofs.Common.{◌≡◌, ◌∙◌, sym, subst, ap, true}
 use Rattle.crsm_spec.specs.Types.{Rec}
 use Rattle.crsm_spec.specs.Draft.{keep}
 use Rattle.crsm_replica.specs.Replica.{ReplicaStands}
@@ -17,8 +16,7 @@ returns-then-is_suspended c = λ x s.
 pub returns : goal.returns
 returns c = λ x s.
     let epoch = c.known-epoch.ensures x s in
-    let small : c.known-epoch.result < 2 ^ 64 = omega arith in
-    let k = c.in_ok-fits.ensures x s small in
+    let k = c.in_ok-fits.ensures x s in
     let is : keep (Rec.Suspend c.known-epoch.result) x ≡ suspend_once x =
     ap (λ e. keep (Rec.Suspend e) x) epoch ∙ sym (once_now x (sym (c.is_suspended-is_suspended.ensures x s) ∙ c.if-is_suspended.false)) in
-    (k.0 ∙ ap (λ y. y.fitting) is, instead c.keep_known.new.self x _ _ is k.1)
+    (k.0 ∙ ap (λ y. y.fitting) is, instead c.keep.new.self x _ _ is k.1)

@@ -9,4 +9,4 @@ unfolding ReplicaStands count_vote
 returns c x s =
     let r = x.replica in
     ran c.args.self.now x c.count_vote.new.self r.issued r.received ((c.args.stamp, c.args.k) ∷ r.votes) r.owed r.pushed r.acked r.taken s
-    (c.in_ok-count_vote.ensures x.replica s.epoch_state (c.last_stamp-last.ensures x.replica.me x.replica.n x.replica.log s.ledger)) s.sound.owed s.sound.pushed
+    (c.in_ok-count_vote.ensures x.replica s.epoch_state (c.last_stamp-last.ensures.value x.replica.me x.replica.n x.replica.log s.ledger)) s.sound.owed s.sound.pushed

@@ -8,4 +8,4 @@ pub returns : goal.returns
 unfolding ReplicaStands members_of
 returns c x s =
     c.is_congested.ensures x.replica s.epoch_state s.me
-    (ap (λ d. d.members) (c.known.ensures x.replica.me x.replica.n x.replica.log s.ledger) ∙ known-members x.replica.n x.replica.log)
+    (ap (λ d. d.members) (c.known.ensures.value x.replica.me x.replica.n x.replica.log s.ledger) ∙ known-members x.replica.n x.replica.log)

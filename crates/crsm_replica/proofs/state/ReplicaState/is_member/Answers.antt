@@ -9,4 +9,4 @@ pub returns : goal.returns
 unfolding ReplicaStands members_of
 returns c x s =
     c.is_among.ensures
-    ∙ ap (λ ks. has ks c.args.k) (c.as_slice.ensures.value ∙ ap (λ d. d.members) (c.known.ensures x.replica.me x.replica.n x.replica.log s.ledger) ∙ known-members x.replica.n x.replica.log)
+    ∙ ap (λ ks. has ks c.args.k) (c.as_slice.ensures.value ∙ ap (λ d. d.members) (c.known.ensures.value x.replica.me x.replica.n x.replica.log s.ledger) ∙ known-members x.replica.n x.replica.log)

@@ -29,7 +29,7 @@ returns c x s =
       sym fit,
       moved ((where_fit x (keep c.args.rec x) fit))
           (recorded c.args.self.now x c.args.rec c.apply.new.ledger c.keep-2.new.self c.keep.new.self c.args.self.now.coordinator r.coordinator r.issued r.received r.votes r.owed r.pushed r.acked r.taken
-          s f.0 c.requires.spelt both (c.in_ok-keep.ensures r s.epoch_state (c.last_stamp-last.ensures r.me r.n r.log s.ledger) f.0 (no_enter c.args.rec c.requires.plain))
+          s f.0 c.requires.spelt both (c.in_ok-keep.ensures r s.epoch_state (c.last_stamp-last.ensures.value r.me r.n r.log s.ledger) f.0 (no_enter c.args.rec c.requires.plain))
           (subst (λ (o : Option Decision). CoordinatorStands c.args.self.now.coordinator r.me r.n o r.coordinator) (sym (same_decision r.log c.args.rec c.requires.plain)) s.coordinator)
           s.sound.owed s.sound.pushed),
     )

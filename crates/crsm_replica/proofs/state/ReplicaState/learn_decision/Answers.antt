@@ -15,7 +15,7 @@ use Rattle.crsm_replica.proofs.state.ReplicaState.learn_decision.Goals as goal
 
 pub returns-then-not-fit : goal.returns-then-not-fit
 unfolding ReplicaStands keep learnt noting forget_epoch
-returns-then-not-fit c x s spelt =
+returns-then-not-fit c x s =
     let r = x.replica in
     let d = c.in_ok-copy.field-0 in
     let n = it_does_not c.in_ok-fit.fit r.me r.n r.log (Rec.Decide d) (made_of x) c.put.new.ledger c.put.new.output (search rules) (c.in_ok-fit.ensures.kept x.replica.me x.replica.n x.replica.log (made_of x) s.ledger s.output) in
@@ -27,13 +27,13 @@ returns-then-not-fit c x s spelt =
 
 pub returns : goal.returns
 unfolding ReplicaStands keep learnt noting forget_epoch active live
-returns c x s spelt =
+returns c x s =
     let r = x.replica in
     let d = c.in_ok-copy.field-0 in
     let rec : Rec = Rec.Decide d in
     let f = it_fits c.in_ok-fit.fit r.me r.n r.log rec (made_of x) c.put.new.ledger c.put.new.output (search rules) (c.in_ok-fit.ensures.kept x.replica.me x.replica.n x.replica.log (made_of x) s.ledger s.output) in
     let fit = fitting_both x.fitting (fits r.me r.n r.log rec) s.sound.fitting f.0 in
-    let fits_too : FitsDecision d = subst FitsDecision (sym c.in_ok-copy.ensures) spelt in
+    let fits_too : FitsDecision d = subst FitsDecision (sym c.in_ok-copy.ensures) c.requires in
     learnt_same true x c.in_ok-copy.ensures (
       sym fit,
       moved ((where_fit x (learnt d x) fit))

@@ -6,4 +6,4 @@ use Rattle.crsm_replica.proofs.state.ReplicaState.members.Goals as goal
 
 pub returns : goal.returns
 unfolding ReplicaStands members_of
-returns c x s = c.in_ok-members.ensures ∙ ap (λ d. d.members) (c.known.ensures x.replica.me x.replica.n x.replica.log s.ledger) ∙ known-members x.replica.n x.replica.log
+returns c x s = c.in_ok-members.ensures ∙ ap (λ d. d.members) (c.known.ensures.value x.replica.me x.replica.n x.replica.log s.ledger) ∙ known-members x.replica.n x.replica.log

@@ -9,7 +9,7 @@ use Rattle.crsm_replica.proofs.state.ReplicaState.other_members.Goals as goal
 pub returns-clause-value : goal.returns-clause-value
 unfolding ReplicaStands other_members members_of
 returns-clause-value c x s =
-    let is = c.as_slice.ensures.value ∙ ap (λ (d : Decision). d.members) (c.known.ensures x.replica.me x.replica.n x.replica.log s.ledger) ∙ known-members x.replica.n x.replica.log in
+    let is = c.as_slice.ensures.value ∙ ap (λ (d : Decision). d.members) (c.known.ensures.value x.replica.me x.replica.n x.replica.log s.ledger) ∙ known-members x.replica.n x.replica.log in
     let mine = subst (λ (m : ℕ). c.in_ok-others.others.items ≡ but_for m c.as_slice.result.now) s.me c.in_ok-others.ensures.value in
     subst (λ (ms : List ℕ). c.in_ok-others.others.items ≡ but_for x.replica.me ms) is mine
 

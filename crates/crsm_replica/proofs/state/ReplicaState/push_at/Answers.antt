@@ -16,9 +16,9 @@ unfolding ReplicaStands would members_of other_members
 returns c x reading s fit is =
     let r = x.replica in
     let mine : c.me-number.result ≡ r.me = c.me-number.ensures.value x s in
-    let now : c.known.result.now.epoch ≡ known r.log = ap (λ d. d.epoch) (c.known.ensures r.me r.n r.log s.ledger) ∙ known-epoch r.n r.log in
-    let listed : c.known-2.result.now.members ≡ members_of r = ap (λ d. d.members) (c.known-2.ensures r.me r.n r.log s.ledger) ∙ known-members r.n r.log in
-    let members : c.known-3.result.now.members ≡ members_of r = ap (λ d. d.members) (c.known-3.ensures r.me r.n r.log s.ledger) ∙ known-members r.n r.log in
+    let now : c.known.result.now.epoch ≡ known r.log = ap (λ d. d.epoch) (c.known.ensures.value r.me r.n r.log s.ledger) ∙ known-epoch r.n r.log in
+    let listed : c.known-2.result.now.members ≡ members_of r = ap (λ d. d.members) (c.known-2.ensures.value r.me r.n r.log s.ledger) ∙ known-members r.n r.log in
+    let members : c.known-3.result.now.members ≡ members_of r = ap (λ d. d.members) (c.known-3.ensures.value r.me r.n r.log s.ledger) ∙ known-members r.n r.log in
     let others : others_of c.me-number.result c.as_slice.result.now ≡ other_members r =
     ap (λ me. others_of me c.as_slice.result.now) mine ∙ ap (others_of r.me) (c.as_slice.ensures.value ∙ listed) in
     pushed c.args.self.now x reading c.args.time c.args.payload c.send_next.new.output c.push_at.new.self (others_of c.me-number.result c.as_slice.result.now) s fit is (omega arith)

@@ -14,5 +14,5 @@ unfolding ReplicaStands members_of spec_of
 returns-clause-value c x s active =
     let named = c.counted.ensures x.replica.me x.replica.n x.replica.log s.ledger in
     let is : c.ready-ready.result ≡ ready_of x.replica =
-    c.ready-ready.ensures x.replica s.epoch_state (ap (λ d. d.members) (c.known.ensures x.replica.me x.replica.n x.replica.log s.ledger) ∙ known-members x.replica.n x.replica.log) named active in
+    c.ready-ready.ensures x.replica s.epoch_state (ap (λ d. d.members) (c.known.ensures.value x.replica.me x.replica.n x.replica.log s.ledger) ∙ known-members x.replica.n x.replica.log) named active in
     c.of_a_replica.ensures.same (subst (λ (o : Option Stamp). FitsOption FitsStamp o) (sym is) (ready-fits x.replica s.sound.spelt)) ∙ is

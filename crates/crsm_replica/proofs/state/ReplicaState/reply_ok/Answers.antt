@@ -1,5 +1,4 @@
-use Rattle.std.proofs.Common.{ℕ, ◌++◌, ◌∷◌, [], subst, rules}
-use Rattle.crsm_base.specs.Spelling.{FitsAnswer}
+use Rattle.std.proofs.Common.{ℕ, ◌++◌, ◌∷◌, [], subst}
 use Rattle.crsm_fact_log.proofs.Lists.{all-push}
 use Rattle.crsm_replica_output.specs.Made.{made_of, OutputStands, on_paper as on_paper_too}
 use Rattle.crsm_spec.specs.Types.{Line, Outcome, Answer}
@@ -12,8 +11,7 @@ use Rattle.crsm_replica.proofs.state.ReplicaState.reply_ok.Goals as goal
 
 pub returns : goal.returns
 unfolding ReplicaStands on_paper on_paper_too reply_ok reply
-returns c x s fit =
-    let spelt : FitsAnswer c.args.answer = search rules in
+returns c x s fit spelt =
     let command = c.args.client.now.entry.command in
     let told : ℕ → Answer → Reply = λ me a. record { address = c.args.client.now.address; client = command.client; number = command.number; says = Outcome.Answered a; line = Line.ReplyOk me command.client command.number c.args.place c.args.answer } in
     sent c.args.self.now x c.reply.new.self x.excess x.sends (x.replies ++ told x.replica.me c.args.answer ∷ []) s

@@ -12,13 +12,16 @@ use Rattle.crsm_replica.proofs.state.ReplicaState.send_decision.Goals as goal
 pub returns-then-known-eq0 : goal.returns-then-known-eq0
 unfolding ReplicaStands
 returns-then-known-eq0 c x s =
-    let none = none-known x.replica.n x.replica.log s.sound.later (ap (λ d. d.epoch) (sym (c.known-known.ensures x.replica.me x.replica.n x.replica.log s.ledger)) ∙ c.if-known-eq0.true) in
+    let none = none-known x.replica.n x.replica.log s.sound.later (ap (λ d. d.epoch) (sym (c.known-known.ensures.value x.replica.me x.replica.n x.replica.log s.ledger)) ∙ c.if-known-eq0.true) in
     subst (λ (y : Draft). ReplicaStands c.args.self.now y) (sym (send_control-unknown c.args.k x (λ d is. absurd (cc (none, is))))) s
+
+pub spell_decision-requires : goal.spell_decision-requires
+spell_decision-requires c = let other = c.if-known-eq0.false in c.known-known.ensures.fits (omega (arith, other))
 
 pub returns : goal.returns
 unfolding ReplicaStands
 returns c x s =
-    let same = c.known-known.ensures x.replica.me x.replica.n x.replica.log s.ledger in
+    let same = c.known-known.ensures.value x.replica.me x.replica.n x.replica.log s.ledger in
     let known : Decision = c.known-known.result.now in
     let is : decision x.replica.log ≡ Some known = sym (ap (λ (d : Decision). Some d) same ∙ some-known x.replica.n x.replica.log
     (λ zero.

@@ -5,6 +5,6 @@ use Rattle.crsm_replica.proofs.state.ReplicaState.send_to_all.Goals as goal
 
 pub returns : goal.returns
 unfolding send_to_all
-returns c x s fit =
+returns c x s =
     subst (λ ks. ReplicaStands c.send_to_each.new.self (send_to_each ks c.args.control.now x)) (c.deref.ensures.value ∙ c.in_ok-others.ensures.value x s)
-    (c.in_ok-send_to_each.ensures x s fit)
+    (c.in_ok-send_to_each.ensures x s)

@@ -7,18 +7,18 @@ use Rattle.crsm_replica.proofs.SendingControls.{send_control-more, send_control-
 use Rattle.crsm_replica.proofs.state.ReplicaState.send_to_each.Goals as goal
 
 pub loop-k-init : goal.loop-k-init
-loop-k-init c x s fit = subst (λ (y : Draft). ReplicaStands c.args.self.now y) (sym (send_control-none c.args.control.now x)) s
+loop-k-init c x s = subst (λ (y : Draft). ReplicaStands c.args.self.now y) (sym (send_control-none c.args.control.now x)) s
 
 pub loop-k-preserved : goal.loop-k-preserved
-loop-k-preserved c x s fit =
+loop-k-preserved c x s =
     subst (λ (y : Draft). ReplicaStands c.send_spelt.new.self y) (send_control-more c.args.control.now x c.args.replicas.now c.loop-k.k-index 0 c.loop-k-test.true)
-    (c.in_ok-send_spelt.ensures (send_to_each (take c.loop-k.k-index c.args.replicas.now) c.args.control.now x) c.args.control.now (c.loop-k.invariant x s fit)
+    (c.in_ok-send_spelt.ensures (send_to_each (take c.loop-k.k-index c.args.replicas.now) c.args.control.now x) c.args.control.now (c.loop-k.invariant x s)
     (subst (λ (bytes : List ℕ). IsSpellingOf bytes c.args.control.now) (sym c.as_slice.ensures) c.in_ok-spelling.ensures))
 
 pub returns : goal.returns
-returns c x s fit =
-    subst (λ ks. ReplicaStands c.loop-k.self (send_to_each ks c.args.control.now x)) (take_all c.loop-k.k-index c.args.replicas.now (omega arith)) (c.loop-k.invariant x s fit)
+returns c x s =
+    subst (λ ks. ReplicaStands c.loop-k.self (send_to_each ks c.args.control.now x)) (take_all c.loop-k.k-index c.args.replicas.now (omega arith)) (c.loop-k.invariant x s)
 
 pub returns-then-is_empty : goal.returns-then-is_empty
-returns-then-is_empty c x s fit =
+returns-then-is_empty c x s =
     subst (λ ks. ReplicaStands c.args.self.now (send_to_each ks c.args.control.now x)) (sym (nil_from_length c.args.replicas.now (grind (arith, c.is_empty.ensures, c.if-is_empty.true)))) (subst (λ (y : Draft). ReplicaStands c.args.self.now y) (sym (send_control-none c.args.control.now x)) s)

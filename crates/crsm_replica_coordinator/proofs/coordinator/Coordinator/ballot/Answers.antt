@@ -5,7 +5,7 @@ use Rattle.crsm_replica_coordinator.proofs.Coordinators.{ballot_is, other_cases}
 use Rattle.crsm_replica_coordinator.proofs.coordinator.Coordinator.ballot.Goals as goal
 
 pub returns-in-Proposing : goal.returns-in-Proposing
-returns-in-Proposing c = λ me n known m s. ap (λ b. Some b) c.ballot.ensures ∙ ballot_is me n known c.in-Proposing.proposer m (subst (λ x. CoordinatorStands x me n known m) c.in-Proposing.is s)
+returns-in-Proposing c = λ me n known m s. ap (λ b. Some b) c.ballot.ensures.value ∙ ballot_is me n known c.in-Proposing.proposer m (subst (λ x. CoordinatorStands x me n known m) c.in-Proposing.is s)
 
 pub returns-in_default : goal.returns-in_default
 unfolding ballot_of

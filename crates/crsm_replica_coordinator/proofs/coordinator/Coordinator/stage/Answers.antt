@@ -15,4 +15,4 @@ pub returns-in-Collecting : goal.returns-in-Collecting
 returns-in-Collecting c = λ me n known m s. stage_collecting me n known _ m (subst (λ x. CoordinatorStands x me n known m) c.in-Collecting.is s)
 
 pub returns-in-Preempted : goal.returns-in-Preempted
-returns-in-Preempted c = λ me n known m s. stage_over me n known _ _ m (subst (λ x. CoordinatorStands x me n known m) c.in-Preempted.is s)
+returns-in-Preempted c = λ me n known m s. stage_over me n known _ m (subst (λ x. CoordinatorStands x me n known m) c.in-Preempted.is s)
