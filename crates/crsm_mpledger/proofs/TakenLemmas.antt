@@ -1,19 +1,23 @@
 -- Records read from a body one after another.
-use Rattle.std.proofs.Common.{◌≡◌, ℕ, ◌<◌, ◌≤◌, List, [], ◌∷◌, ◌++◌, length, Some, refl, ap, sym, subst, ◌∙◌, arith}
+use Rattle.std.proofs.Common.{◌≡◌, ℕ, ◌<◌, ◌≤◌, List, [], ◌∷◌, ◌++◌, length, None, Some, refl, ap, sym, subst, ◌∙◌, arith}
 use Rattle.std.specs.List.{flat_map, AllByRecursion}
 use Rattle.std.proofs.lemmas.List.{length-append}
 use Rattle.std.proofs.lemmas.List.Concat.{flat_map-cons}
+use Rattle.std.proofs.lemmas.Option.{none-some}
 use Rattle.crsm_base.specs.Spelling.{option_bytes, FitsOption, command_bytes, FitsCommand}
 use Rattle.crsm_base.specs.Parser.{u8_at}
 use Rattle.crsm_base.proofs.Parsers.{IsParser, both_parse, option_parses, variant_again, some_is}
 use Rattle.crsm_base.proofs.Numbers.{u64_parses}
 use Rattle.crsm_base.proofs.Fields.{ballot_parses, command_parses}
 use Rattle.crsm_mpspec.specs.declared.rec.MpRec.{MpRec}
-use Rattle.crsm_mpspec.specs.Log.{Log}
+use Rattle.crsm_spec.specs.Clock.{u64_max}
+use Rattle.crsm_mpspec.specs.Log.{Log, boots}
 use Rattle.crsm_mpspec.specs.Records.{rec_bytes, FitsRec, body_bytes, SpeltBody}
 use Rattle.crsm_mpledger.specs.Reading.{value_at, boot_at, promise_at, accept_at, choose_at, rec_at}
+use Rattle.crsm_mpledger.specs.declared.ledger.MpLedger.{MpLedger}
+use Rattle.crsm_mpledger.specs.MpLedger.{CanFollow, MpLedgerStands}
 use Rattle.crsm_mpledger.specs.Sound.{IsSound, MayFollow, with_records}
-use Rattle.crsm_mpledger.proofs.BootLemmas.{sound_before}
+use Rattle.crsm_mpledger.proofs.BootLemmas.{can_follow, sound_before}
 
 -- ---- single records
 
@@ -82,3 +86,17 @@ left_next part (x ∷ xs) rest whole rec after left sound some read =
       left = record { fit = left.fit.1; is = sym others; same = ap (λ (y : MpRec). with_records (y ∷ part) xs) (sym first) ∙ left.same };
       shorter = omega (arith, long, len, ap length others, length-append (rec_bytes x) (flat_map rec_bytes xs));
     }
+
+-- what is left begins with a record
+pub left_some : (part : Log) (more : List MpRec) (rest : List ℕ) (whole : Log) → IsLeft part more rest whole → 0 < length rest → None ≡ rec_at rest → ⊥
+left_some part [] rest whole left some none = absurd (omega (arith, some, ap length left.is))
+left_some part (x ∷ xs) rest whole left some none =
+    let is : rest ≡ rec_bytes x ++ flat_map rec_bytes xs = left.is ∙ flat_map-cons rec_bytes x xs in
+    none-some (x, flat_map rec_bytes xs) (none ∙ ap rec_at is ∙ rec_again x (flat_map rec_bytes xs) left.fit.0)
+
+-- and that record can be applied
+pub left_follows : (ledger : MpLedger) (part : Log) (more : List MpRec) (rest : List ℕ) (whole : Log) (rec : MpRec) (after : List ℕ) → MpLedgerStands ledger part
+    → IsLeft part more rest whole → IsSound whole → boots whole < u64_max → 0 < length rest → Some (rec, after) ≡ rec_at rest → CanFollow ledger rec
+left_follows ledger part more rest whole rec after s left sound few some read =
+    let next = left_next part more rest whole rec after left sound some read in
+    can_follow ledger part rec next.more s (subst (λ l. boots l < u64_max) (sym next.left.same) few)

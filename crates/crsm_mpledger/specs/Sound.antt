@@ -3,7 +3,7 @@ use Rattle.std.specs.Prelude.{◌≡◌, ℕ, ◌<◌, false, List, [], ◌∷�
 use Rattle.crsm_base.specs.Spelling.{FitsBallot, FitsCommand, FitsOption}
 use Rattle.crsm_spec.specs.Clock.{u64_max}
 use Rattle.crsm_mpspec.specs.declared.rec.MpRec.{MpRec}
-use Rattle.crsm_mpspec.specs.Log.{Log, is_chosen}
+use Rattle.crsm_mpspec.specs.Log.{Log, boots, is_chosen}
 use Rattle.crsm_mpspec.specs.Records.{SpeltBody}
 
 -- the record may follow this log: it has an encoding, its slot is not the last number, and no slot is chosen twice
@@ -27,3 +27,10 @@ with_records log (rec ∷ recs) = with_records (rec ∷ log) recs
 abbrev pub AreBodies : Log → List (List ℕ) → Log → Type 0
 AreBodies log [] whole = log ≡ whole
 AreBodies log (body ∷ bodies) whole = (recs : List MpRec) × SpeltBody recs body × AreBodies (with_records log recs) bodies whole
+
+-- These are the bodies of a sound log, whose boots can be counted.
+pub record AreOfALog (bodies : List (List ℕ)) : Type 0 where
+  pub log : Log
+  pub are : AreBodies [] bodies log
+  pub sound : IsSound log
+  pub few : boots log < u64_max

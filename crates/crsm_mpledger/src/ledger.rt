@@ -5,12 +5,12 @@ ghost use Rattle.crsm_mpspec.specs.declared.rec.MpRec.{MpRec as Record};
 ghost use Rattle.crsm_mpspec.specs.Log.{Log, by_slot, choices, executed, run_from};
 ghost use Rattle.crsm_mpledger.specs.BySlot.{SlotsStand};
 ghost use Rattle.crsm_mpledger.specs.Executed.{ExecutionsStand};
-ghost use Rattle.crsm_mpledger.specs.MpLedger.{MpLedgerStands, WhereLedger};
+ghost use Rattle.crsm_mpledger.specs.MpLedger.{CanFollow, MayBoot, MpLedgerStands, WhereLedger};
 ghost use Rattle.crsm_mpledger.specs.Sound.{IsSound, MayFollow};
 
 use crate::by_slot::BySlot;
 use crate::executions::Executions;
-use crsm_base::{Ballot, Command, NoMemory, never};
+use crsm_base::{Ballot, Command, NoMemory};
 use crsm_mpspec::{MpRec, copy_value};
 use std::alloc::Global;
 
@@ -60,16 +60,12 @@ impl MpLedger {
         })
     }
 
-    /// Counts one more boot.
-    fn boot(&mut self) -> Result<(), NoMemory>
-        ensures { OnOk result (WhereLedger self.old (λ log. MpLedgerStands self.new (Record.Boot ∷ log))) }
+    /// Counts one more boot, of which there must be fewer than 2^64 - 1.
+    pub fn boot(&mut self)
+        requires { MayBoot self.old }
+        ensures { WhereLedger self.old (λ log. MpLedgerStands self.new (Record.Boot ∷ log)) }
     {
-        if self.boots == u64::MAX {
-            // No log has that many boots.
-            return Err(never());
-        }
         self.boots += 1;
-        Ok(())
     }
 
     /// Records the acceptance of a value, and the promise of its ballot.
@@ -92,11 +88,12 @@ impl MpLedger {
 
     /// Applies a record. `NoMemory` if memory runs out; the ledger is then spent.
     pub fn follow(&mut self, rec: &MpRec) -> Result<(), NoMemory>
+        requires { CanFollow self.old rec.now }
         ensures { OnOk result (WhereLedger self.old (λ log. MayFollow log rec.now → MpLedgerStands self.new (rec.now ∷ log))) }
     {
         match rec {
             MpRec::Boot => {
-                self.boot()?;
+                self.boot();
                 Ok(())
             }
             MpRec::Promise { ballot } => {
@@ -122,11 +119,12 @@ impl MpLedger {
 
     /// Applies a record, by value.
     pub(crate) fn take(&mut self, rec: MpRec) -> Result<(), NoMemory>
+        requires { CanFollow self.old rec }
         ensures { OnOk result (WhereLedger self.old (λ log. MayFollow log rec → MpLedgerStands self.new (rec ∷ log))) }
     {
         match rec {
             MpRec::Boot => {
-                self.boot()?;
+                self.boot();
                 Ok(())
             }
             MpRec::Promise { ballot } => {

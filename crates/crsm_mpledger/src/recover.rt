@@ -4,17 +4,18 @@ ghost use Rattle.std.specs.Prelude.{[], List, IfOk, OnOk};
 ghost use Rattle.crsm_mpspec.specs.declared.rec.MpRec.{MpRec as Record};
 ghost use Rattle.crsm_mpspec.specs.Log.{Log};
 ghost use Rattle.crsm_mpspec.specs.Records.{SpeltBody};
-ghost use Rattle.crsm_mpledger.specs.MpLedger.{MpLedgerStands, WhereLedger};
-ghost use Rattle.crsm_mpledger.specs.Sound.{IsSound, AreBodies, with_records};
+ghost use Rattle.crsm_mpledger.specs.MpLedger.{GoesOn, MpLedgerStands, WhereLedger};
+ghost use Rattle.crsm_mpledger.specs.Sound.{IsSound, AreBodies, AreOfALog, with_records};
 
 use crate::ledger::MpLedger;
 use crate::take_rec;
-use crsm_base::{Bodies, NoMemory, never};
+use crsm_base::{Bodies, NoMemory};
 use std::alloc::Global;
 
 impl MpLedger {
-    /// Returns the ledger of these bodies, which are those of a replica's own log. `NoMemory` if memory runs out.
+    /// Returns the ledger of these bodies, which must be those of a replica's own log. `NoMemory` if memory runs out.
     pub fn recover(alloc: Global, bodies: &Bodies) -> Result<MpLedger, NoMemory>
+        requires { AreOfALog bodies.now }
         ensures { IfOk result (λ ledger. (log : Log) → AreBodies [] bodies.now log → IsSound log → MpLedgerStands ledger log) }
     {
         let mut ledger = MpLedger::new(alloc)?;
@@ -39,6 +40,7 @@ impl MpLedger {
 
     /// Applies the records of one body.
     fn follow_body(&mut self, alloc: Global, body: &[u8]) -> Result<(), NoMemory>
+        requires { GoesOn self.old body.now }
         ensures { OnOk result (WhereLedger self.old (λ log. (recs : List Record) → SpeltBody recs body.now → IsSound (with_records log recs) →
             MpLedgerStands self.new (with_records log recs))) }
     {
@@ -48,9 +50,8 @@ impl MpLedger {
             if rest.is_empty() {
                 return Ok(());
             }
-            // A replica has written each body of its log.
             let Some((rec, after)) = take_rec(alloc, rest)? else {
-                return Err(never());
+                unreachable!();
             };
             self.take(rec)?;
             rest = after;
