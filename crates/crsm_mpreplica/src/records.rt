@@ -11,7 +11,7 @@ ghost use Rattle.crsm_mpspec.specs.Types.{Value};
 ghost use Rattle.crsm_mpspec.specs.Records.{FitsRec};
 ghost use Rattle.crsm_mpspec.specs.declared.line.MpLine.{MpLine as Line};
 ghost use Rattle.crsm_mpspec.specs.declared.rec.MpRec.{MpRec as Record};
-ghost use Rattle.crsm_mpledger.specs.MpLedger.{MpLedgerStands, WhereLedger};
+ghost use Rattle.crsm_mpledger.specs.MpLedger.{CanFollow, MpLedgerStands, WhereLedger};
 ghost use Rattle.crsm_mpledger.specs.Executed.{execution_after};
 ghost use Rattle.crsm_mpledger.specs.Sound.{MayFollow};
 ghost use Rattle.crsm_mpreplica.specs.Fitting.{FitsAccept, FitsChoice};
@@ -33,6 +33,7 @@ fn keep(
     rec: MpRec,
     line: MpLine,
 ) -> Result<(), NoMemory>
+    requires { CanFollow ledger.old rec }
     ensures ledger { OnOk result (WhereLedger ledger.old (λ log. MayFollow log rec → MpLedgerStands ledger.new (rec ∷ log))) }
     ensures made { OnOk result ((o : Outcome) → MadeStands made.old o → FitsRec rec → MadeStands made.new (record o { batch = o.batch ++ rec ∷ []; lines = o.lines ++ line ∷ [] })) }
 {

@@ -82,6 +82,13 @@ impl MpReplica {
         &self.ledger
     }
 
+    /// Stops the replica, and returns its ledger.
+    pub fn into_ledger(self) -> MpLedger
+        ensures { WhereStands self (λ x. MpLedgerStands result x.replica.log) }
+    {
+        self.ledger
+    }
+
     /// Returns its stage in an election.
     pub fn note(&self) -> &Note
         ensures { WhereStands self.now (λ x. NoteStands result.now x.replica.me x.replica.log x.replica.note) }
