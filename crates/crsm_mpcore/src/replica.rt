@@ -1,17 +1,16 @@
 //! The replica in memory: its boot and its steps.
 
-ghost use Rattle.std.specs.Prelude.{◌<◌, ◌≤◌, [], IfOk, IsErr};
+ghost use Rattle.std.specs.Prelude.{◌<◌, ◌≤◌, IfOk, IsErr};
 ghost use Rattle.crsm_mpspec.specs.Log.{Log};
 ghost use Rattle.crsm_mpspec.specs.Replica.{fresh};
 ghost use Rattle.crsm_mpspec.specs.Step as steps;
 ghost use Rattle.crsm_mpledger.specs.MpLedger.{MpLedgerStands};
-ghost use Rattle.crsm_mpledger.specs.Sound.{AreBodies, IsSound};
 ghost use Rattle.crsm_mpreplica.specs.Fitting.{FitsInput};
 ghost use Rattle.crsm_mpreplica.specs.Made.{Answers, outcome_of};
 ghost use Rattle.crsm_mpcore.specs.Core.{IsSpent, MpCoreStands, WhereCore};
 
 use crate::step;
-use crsm_base::{Bodies, NoMemory};
+use crsm_base::NoMemory;
 use crsm_mpledger::MpLedger;
 use crsm_mpreplica::MpReplica;
 use crsm_mpspec::{MpBatch, MpInput};
@@ -26,17 +25,16 @@ pub struct MpCore {
 }
 
 impl MpCore {
-    /// Boots replica `me` of `n` on the bodies of its own log, and records the boot. `NoMemory` if memory runs out.
-    pub fn recover(alloc: Global, me: u32, n: u32, bodies: &Bodies) -> Result<MpCore, NoMemory>
+    /// Returns replica `me` of `n`, which has just booted and recorded the boot in this ledger.
+    pub fn new(alloc: Global, me: u32, n: u32, ledger: MpLedger) -> MpCore
         requires mine { me < n }
         requires most { n ≤ 15 }
-        ensures { IfOk result (λ core. (log : Log) → AreBodies [] bodies.now log → IsSound log → MpCoreStands core (fresh me n log)) }
+        ensures { (log : Log) → MpLedgerStands ledger log → MpCoreStands result (fresh me n log) }
     {
-        let ledger = MpLedger::recover(alloc, bodies)?;
-        Ok(MpCore {
+        MpCore {
             state: MpReplica::new(alloc, me, n, ledger),
             is_spent: false,
-        })
+        }
     }
 
     /// Runs one step and returns its output; a message comes from replica `from`. The records must be durable before
@@ -63,5 +61,12 @@ impl MpCore {
         ensures { WhereCore self.now (λ r. MpLedgerStands result.now r.log) }
     {
         self.state.ledger()
+    }
+
+    /// Stops the replica, and returns its ledger.
+    pub fn into_ledger(self) -> MpLedger
+        ensures { WhereCore self (λ r. MpLedgerStands result r.log) }
+    {
+        self.state.into_ledger()
     }
 }
