@@ -1,10 +1,11 @@
 """Replay: events a second of a schedule, also as a ratio to another program's.
 
-    python3 bench/replay.py [--requests COUNT] [--replicas N] [--schedule FILE] [--runs COUNT] [-- COMMAND ..]
+    python3 bench/replay.py [--requests COUNT] [--replicas N] [--schedule FILE] [--leader] [--runs COUNT]
+        [-- COMMAND ..]
 
-The schedule is one of requests, or that of the file. The other program reads the same schedule from its standard input.
-It is timed once, since it may be slow. A run that is timed writes to the null device, and the two outputs are compared
-apart from that.
+The schedule is one of requests, or that of the file; with --leader it is replayed by `replay-mp`. The other program
+reads the same schedule from its standard input. It is timed once, since it may be slow. A run that is timed writes to
+the null device, and the two outputs are compared apart from that.
 """
 
 import argparse
@@ -24,6 +25,7 @@ def arguments():
     parser.add_argument("--requests", type=int, default=REQUESTS)
     parser.add_argument("--replicas", type=int, default=REPLICAS)
     parser.add_argument("--schedule", help="a file to be replayed in place of requests")
+    parser.add_argument("--leader", action="store_true", help="replay it over a store with a leader")
     parser.add_argument("--runs", type=int, default=RUNS, help="how often this program is timed")
     parser.add_argument("command", nargs="*")
     return parser.parse_args()
@@ -49,7 +51,7 @@ def main():
     """Prints the rates, and ends with status 1 where the two outputs differ."""
     asked = arguments()
     whole, one = schedules(asked)
-    replay = [program("crsm"), "replay"]
+    replay = [program("crsm"), "replay-mp" if asked.leader else "replay"]
     _, transcript = run_once(replay, whole)
     ours = rate(replay, whole, one, asked.runs)
     sent = transcript.count(b" send ")

@@ -35,11 +35,10 @@ done < <(count)
 [ "$fail" = 0 ] && echo "impossible: ok"
 exit "$fail"
 # list
-# crsm_mpledger 2
 # crsm_mpreplica 1
-# crsm_mpworld 9
-# crsm_replica 1
-# crsm_replica_reconfigure 1
+# crsm_mpworld 1
+# crsm_replica 3
+# crsm_replica_output 2
 # crsm_sim_machine 1
 # crsm_sim_network 1
 # crsm_suspend 1

@@ -1,6 +1,6 @@
 -- The effect of a boot.
 use Rattle.std.proofs.Common.{◌≡◌, ◌+◌, ℕ, zero, suc, List, [], ◌∷◌, ◌++◌, drop, length, refl, ap, sym, ◌∙◌, subst, append-nil, Some}
-use Rattle.std.specs.Prelude.{slice_get, slice_set}
+use Rattle.std.specs.Prelude.{slice_get}
 use Rattle.crsm_mpspec.specs.declared.line.MpLine.{MpLine}
 use Rattle.crsm_mpspec.specs.declared.rec.MpRec.{MpRec}
 use Rattle.crsm_mpspec.specs.Draft.{begun, executions, exec_lines, keep, keep_as, line_of}
@@ -9,7 +9,7 @@ use Rattle.crsm_mpspec.specs.Moments.{start_at}
 use Rattle.crsm_mpspec.specs.Replica.{fresh}
 use Rattle.crsm_mpspec.specs.Step.{boot}
 use Rattle.crsm_mpspec.specs.World.{Packet, Site, World, after_step, log_of, send_lines, whole_step}
-use Rattle.crsm_mpworld.specs.declared.stops.BootSize.{BootSize}
+use Rattle.crsm_mpworld.specs.declared.place.BootSize.{BootSize}
 use Rattle.crsm_mpworld.specs.declared.world.MpWorld.{MpWorld}
 use Rattle.crsm_mpworld.specs.Packets.{MpNetworkStands}
 use Rattle.crsm_mpworld.specs.Sites.{BootsTo}

@@ -1,22 +1,29 @@
 -- The output of a boot.
-use Rattle.std.proofs.Common.{◌≡◌, ℕ, ◌<◌, ◌+◌, cond, List, [], ◌∷◌, ◌++◌, length, refl, sym, ap, ◌∙◌, subst, arith}
-use Rattle.std.specs.Prelude.{fold}
-use Rattle.crsm_disk.specs.Memory.{Memory}
-use Rattle.crsm_log.specs.Format.{reading, found, bodies_in, bodies_of}
+use Rattle.std.proofs.Common.{◌≡◌, ℕ, ◌<◌, ◌≤◌, ◌+◌, Bool, true, false, cond, List, [], ◌∷◌, ◌++◌, length, refl, sym, ap, ◌∙◌, subst, arith}
+use Rattle.std.proofs.Math.Logic.{∥∥₁_elim}
+use Rattle.std.proofs.Props.{props}
+use Rattle.std.proofs.lemmas.List.{length-append}
+use Rattle.std.specs.List.{flat_map}
+use Rattle.std.specs.Prelude.{fold, ◌^◌, if◌then◌else◌}
+use Rattle.crsm_disk.specs.Memory.{Memory, meaning_of}
+use Rattle.crsm_log.specs.Format.{Entry, Items, whole, broken, reading, reading_in, found, bodies_among, bodies_in, bodies_of, entries_in, is_cluster, items_of, size}
+use Rattle.crsm_log.specs.Log.{IsSettled}
 use Rattle.crsm_log.specs.Words.{disk_of}
 use Rattle.crsm_log.specs.declared.log.Log.{Log as DiskLog}
 use Rattle.crsm_mpspec.specs.declared.rec.MpRec.{MpRec}
 use Rattle.crsm_mpspec.specs.Log.{Log, boots, is_boot}
-use Rattle.crsm_mpspec.specs.Records.{SpeltBody, body_bytes}
+use Rattle.crsm_mpspec.specs.Records.{SpeltBody, body_bytes, rec_bytes}
 use Rattle.crsm_mpspec.specs.Replica.{fresh, note_after}
 use Rattle.crsm_mpspec.specs.Draft.{begun, keep, keep_as}
 use Rattle.crsm_mpspec.specs.Step.{boot}
 use Rattle.crsm_mpspec.specs.World.{body_size}
-use Rattle.crsm_mpledger.specs.Sound.{IsSound, AreBodies}
+use Rattle.crsm_mpledger.specs.declared.ledger.MpLedger.{MpLedger}
+use Rattle.crsm_mpledger.specs.MpLedger.{MayBoot}
+use Rattle.crsm_mpledger.specs.Sound.{AreBodies, with_records}
 use Rattle.crsm_mpcore.specs.declared.replica.MpCore.{MpCore}
 use Rattle.crsm_mpcore.specs.Core.{MpCoreStands}
-use Rattle.crsm_mpworld.specs.Disks.{IsDisk, IsUpOn, bytes_of}
-use Rattle.crsm_mpworld.proofs.Disks.{body_some, bodies_push, on_disk, spelt_body}
+use Rattle.crsm_mpworld.specs.Disks.{IsDisk, IsSomeLeft, IsUpOn, bytes_of}
+use Rattle.crsm_mpworld.proofs.Disks.{body_some, rec_some, spelt_body, with_body}
 
 -- a boot leaves nothing but one record more
 boot_is : (me n : ℕ) (log : Log) → (boot me n log).replica ≡ fresh me n (MpRec.Boot ∷ log)
@@ -43,25 +50,71 @@ core_fresh : {g : _} (core : MpCore) (new_log : DiskLog Memory g) (me n : ℕ) (
 unfolding fresh
 core_fresh core new_log me n log stands kept = record { stands = stands; kept = kept }
 
--- The log `before` was read from a disk, the body of a boot was put on it, and a core was made of both.
-pub booted : {g : _} (core : MpCore) (new_log : DiskLog Memory g) (left mid : Memory) (me n : ℕ) (log : Log) (before after : List (List ℕ)) (body put pushed : List ℕ) →
-    body ≡ body_bytes (MpRec.Boot ∷ []) → put ≡ body → pushed ≡ body → IsDisk left log → reading (bytes_of left) ≡ found before → reading (bytes_of mid) ≡ found before →
-    reading (bytes_of (disk_of new_log)) ≡ found (bodies_of (bytes_of mid) ++ put ∷ []) → after ≡ before ++ pushed ∷ [] →
-    ((whole : Log) → AreBodies [] after whole → IsSound whole → MpCoreStands core (fresh me n whole)) → IsUpOn core new_log (boot me n log).replica
-booted core new_log left mid me n log before after body put pushed is e f h was kept now push recovers =
+-- The body of a boot was put on the disk, and a core was made of a ledger that counts it.
+pub booted : {g : _} (core : MpCore) (old_log new_log : DiskLog Memory g) (me n : ℕ) (log : Log) (body put : List ℕ) → body ≡ body_bytes (MpRec.Boot ∷ []) → put ≡ body →
+    IsDisk (disk_of old_log) log → reading (bytes_of (disk_of new_log)) ≡ found (bodies_of (bytes_of (disk_of old_log)) ++ put ∷ []) →
+    MpCoreStands core (fresh me n (MpRec.Boot ∷ log)) → IsUpOn core new_log (boot me n log).replica
+booted core old_log new_log me n log body put is e h now stands =
     let recs = MpRec.Boot ∷ [] in
-    let bodies = before ++ body ∷ [] in
-    let spelt : SpeltBody recs body = subst (SpeltBody recs) (sym is) (spelt_body recs (tt, tt) (omega arith)) in
-    let are : AreBodies [] before log = subst (λ (bs : List (List ℕ)). AreBodies [] bs log) (ap bodies_in was) h.bodies in
-    let more : AreBodies [] bodies (MpRec.Boot ∷ log) = bodies_push [] log before body recs are spelt in
-    let sound : IsSound (MpRec.Boot ∷ log) = (tt, h.sound) in
-    let all : after ≡ bodies = push ∙ ap (λ b. before ++ b ∷ []) f in
-    let stands = recovers (MpRec.Boot ∷ log) (subst (λ (bs : List (List ℕ)). AreBodies [] bs (MpRec.Boot ∷ log)) (sym all) more) sound in
-    let read : reading (bytes_of (disk_of new_log)) ≡ found bodies = now ∙ ap (λ bs. found (bs ++ put ∷ [])) (ap bodies_in kept) ∙ ap (λ b. found (before ++ b ∷ [])) e in
-    let up = core_fresh core new_log me n (MpRec.Boot ∷ log) stands (on_disk (disk_of new_log) bodies (MpRec.Boot ∷ log) read more sound) in
-    subst (IsUpOn core new_log) (sym (boot_is me n log)) up
+    let spelt : SpeltBody recs put = subst (SpeltBody recs) (sym (e ∙ is)) (spelt_body recs (tt, tt) (omega arith)) in
+    let kept = with_body (disk_of old_log) (disk_of new_log) log recs put h spelt (tt, h.sound) now in
+    subst (IsUpOn core new_log) (sym (boot_is me n log)) (core_fresh core new_log me n (MpRec.Boot ∷ log) stands kept)
 
--- how many boots its ledger counts
-pub fresh_log : (me n : ℕ) (log : Log) → (boot me n log).replica.log ≡ MpRec.Boot ∷ log
-unfolding boot keep keep_as begun fresh
-fresh_log me n log = refl
+-- ---- a log has fewer boots than bytes
+
+abbrev text_len : List (List ℕ) → ℕ
+text_len [] = 0
+text_len (body ∷ bodies) = length body + text_len bodies
+
+records_few : (recs : List MpRec) → length recs ≤ length (body_bytes recs)
+unfolding body_bytes
+records_few [] = omega arith
+records_few (r ∷ recs) =
+    let some = rec_some r in
+    let long = length-append (rec_bytes r) (flat_map rec_bytes recs) in
+    let rest = records_few recs in omega (arith, some, long, rest)
+
+boots_one : (rec : MpRec) (log : Log) → boots (rec ∷ log) ≤ boots log + 1
+unfolding boots is_boot
+boots_one MpRec.Boot log = let e = boot_count log in omega (arith, e)
+boots_one (MpRec.Promise b) log = let e : boots (MpRec.Promise b ∷ log) ≡ boots log = refl in omega (arith, e)
+boots_one (MpRec.Accept slot b v) log = let e : boots (MpRec.Accept slot b v ∷ log) ≡ boots log = refl in omega (arith, e)
+boots_one (MpRec.Choose slot v) log = let e : boots (MpRec.Choose slot v ∷ log) ≡ boots log = refl in omega (arith, e)
+
+boots_with : (log : Log) (recs : List MpRec) → boots (with_records log recs) ≤ boots log + length recs
+boots_with log [] = omega arith
+boots_with log (r ∷ recs) = let one = boots_one r log in let rest = boots_with (r ∷ log) recs in omega (arith, one, rest)
+
+boots_are : (log all : Log) (bodies : List (List ℕ)) → AreBodies log bodies all → boots all ≤ boots log + text_len bodies
+boots_are log all [] are = let e = ap boots are in omega (arith, e)
+boots_are log all (body ∷ bodies) are =
+    let here = boots_with log are.0 in
+    let few = records_few are.0 in
+    let long = ap length are.1.is in
+    let rest = boots_are (with_records log are.0) all bodies are.2 in omega (arith, here, few, long, rest)
+
+entry_text : (b : Bool) (e : Entry) (es : List Entry) → text_len (bodies_among es) ≤ size es → text_len (if b then bodies_among es else e.bytes ∷ bodies_among es) ≤ 5 + length e.bytes + size es
+entry_text true e es h = omega (arith, h)
+entry_text false e es h = omega (arith, h)
+
+entries_text : (es : List Entry) → text_len (bodies_among es) ≤ size es
+entries_text [] = omega arith
+entries_text (e ∷ es) = entry_text (is_cluster e.field) e es (entries_text es)
+
+items_text : (items : Items) → text_len (bodies_in (reading_in items)) ≤ size (entries_in items)
+items_text (whole es) = entries_text es
+items_text (broken n) = omega arith
+
+pub no_boots : boots [] ≡ 0
+unfolding boots
+no_boots = refl
+
+-- so one more can be counted
+pub can_boot : {g : _} (ledger : MpLedger) (on_disk : DiskLog Memory g) (end : ℕ) → IsSettled (meaning_of (disk_of on_disk)) end → end ≤ 2 ^ 62 → ∥ IsSomeLeft ledger on_disk ∥₁ → MayBoot ledger
+can_boot ledger on_disk end settled small some =
+    ∥∥₁_elim some (hlevel props) (λ s.
+    let few = boots_are [] s.log (bodies_of (bytes_of (disk_of on_disk))) s.is.kept.bodies in
+    let text = items_text (items_of (bytes_of (disk_of on_disk))) in
+    let place = settled.place in
+    let is = s.is.stands.boots in
+    let none = no_boots in omega (arith, few, text, place, small, is, none))

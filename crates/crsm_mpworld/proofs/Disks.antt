@@ -1,23 +1,17 @@
 -- Logs on disks whose calls do not fail, and what is left on them.
-use Rattle.std.proofs.Common.{◌≡◌, ℕ, ◌<◌, ◌≤◌, IsTrue, Bool, true, false, List, [], ◌∷◌, ◌++◌, length, map, take, Option, Some, None, refl, sym, ◌∙◌, ap, subst, arith}
-use Rattle.std.specs.Prelude.{unwrap_or}
+use Rattle.std.proofs.Common.{◌≡◌, ℕ, ◌<◌, ◌≤◌, Bool, true, false, List, [], ◌∷◌, ◌++◌, length, map, Option, Some, None, refl, sym, ◌∙◌, ap, subst, arith}
 use Rattle.std.specs.List.{AllByRecursion, flat_map}
 use Rattle.std.specs.Option.{option_map_or}
 use Rattle.std.proofs.lemmas.List.{length-append}
 use Rattle.std.proofs.Math.Logic.{∥∥₁_elim}
 use Rattle.crsm_port_faults.specs.Plan.{Plan}
-use Rattle.crsm_port_image.specs.Calls.{Call, History, contents, wrote, cut, synced}
-use Rattle.crsm_port_image.specs.Image.{image_of}
-use Rattle.crsm_disk.specs.Contract.{Arms}
 use Rattle.crsm_disk.specs.Memory.{Memory, meaning_of, good_left, holding}
 use Rattle.crsm_log.specs.Format.{reading, found, bodies_in, bodies_of}
-use Rattle.crsm_log.specs.Log.{IsSettled, StopsAt, Used, is_synced, less, put_calls, recorded}
+use Rattle.crsm_log.specs.Log.{Used, less}
 use Rattle.crsm_log.specs.Words.{disk_of}
 use Rattle.crsm_log.specs.declared.log.Log.{Log as DiskLog}
-use Rattle.crsm_log.specs.Stop.{IsWhole, StopKeeps}
 use Rattle.crsm_mpspec.specs.declared.rec.MpRec.{MpRec}
-use Rattle.crsm_spec.specs.Lists.{greatest}
-use Rattle.crsm_mpspec.specs.Log.{Log, executed, run_from, end, choices}
+use Rattle.crsm_mpspec.specs.Log.{Log}
 use Rattle.crsm_mpspec.specs.Records.{FitsRec, SpeltBody, body_bytes, rec_bytes}
 use Rattle.crsm_mpspec.specs.Replica.{Replica}
 use Rattle.crsm_mpspec.specs.World.{body_size}
@@ -31,7 +25,7 @@ use Rattle.crsm_mpledger.specs.Sound.{IsSound, AreBodies, with_records}
 use Rattle.crsm_mpcore.specs.declared.replica.MpCore.{MpCore}
 use Rattle.crsm_mpcore.specs.Core.{MpCoreStands}
 use Rattle.crsm_mpworld.specs.Fits.{FitsSend}
-use Rattle.crsm_mpworld.specs.Disks.{IsDisk, IsSomeUp, IsUpOn, bytes_of, image}
+use Rattle.crsm_mpworld.specs.Disks.{IsDisk, IsSomeUp, IsUpOn, bytes_of}
 use Rattle.crsm_mpworld.proofs.Fits.{records_prop, sends_prop}
 use Rattle.crsm_mpworld.proofs.Growing.{step_grows}
 
@@ -51,16 +45,9 @@ well_after k p new well used =
     let told : Some (plan_of new) ≡ Some used.left.0 = used.left.1 in
     ap (λ (o : Option Plan). option_map_or (λ (q : Plan). q.good) o None) told ∙ used.left.2 ∙ ap (less k) well
 
--- if all calls of an armed disk succeeded, this number of further ones do
-pub armed_good : (calls : ℕ) (old new : Memory) (fill : ℕ) → good_left old ≡ None → Arms (Some calls) fill (meaning_of old) (meaning_of new) → good_left new ≡ Some calls
-armed_good calls old new fill well arms =
-    let q = arms.stops (plan_of old) refl in
-    let told : Some (plan_of new) ≡ Some q.0 = q.1 in
-    ap (λ (o : Option Plan). option_map_or (λ (p : Plan). p.good) o None) told ∙ q.2.good well
-
 -- ---- bodies
 
-rec_some : (r : MpRec) → 0 < length (rec_bytes r)
+pub rec_some : (r : MpRec) → 0 < length (rec_bytes r)
 unfolding rec_bytes
 rec_some MpRec.Boot = omega arith
 rec_some (MpRec.Promise b) = omega arith
@@ -103,9 +90,9 @@ with_body old new log recs body h spelt sound is =
 pub empty_disk : IsDisk (holding [] [] None 0) []
 empty_disk = record { sound = tt; whole = refl; bodies = refl }
 
-pub nothing_executed : 0 ≡ length (executed [])
-unfolding executed run_from end greatest choices
-nothing_executed = refl
+-- from which no bodies are read
+pub empty_bodies : (disk : Memory) (bodies : List (List ℕ)) → disk ≡ holding [] [] None 0 → reading (bytes_of disk) ≡ found bodies → bodies ≡ []
+empty_bodies disk bodies e is = ap bodies_in (sym is ∙ ap (λ d. reading (bytes_of d)) e)
 
 -- the log of a core is sound
 pub core_sound : (core : MpCore) (r : Replica) → MpCoreStands core r → IsSound r.log
@@ -140,43 +127,3 @@ pub batch_sends : {g : _} (core : MpCore) (log : DiskLog Memory g) (input : MpIn
 batch_sends core log input from batch some made =
     ∥∥₁_elim some (sends_prop batch.sends) (λ s.
     let a = made s.replica s.is.stands in subst (AllByRecursion FitsSend) (sym a.sends) (fit_mapped _ a.sends_fit))
-
--- ---- what a crash leaves
-
--- of a disk that is settled all
-untrue : false ≡ true → ⊥
-untrue e = cc
-
-synced_image : (first : List ℕ) (calls : List Call) (fill : ℕ) → IsTrue (is_synced calls) → image_of first calls fill ≡ contents first calls
-synced_image first [] fill h = refl
-synced_image first (synced ∷ calls) fill h = refl
-synced_image first (wrote at bytes ∷ calls) fill h = absurd (untrue h)
-synced_image first (cut n ∷ calls) fill h = absurd (untrue h)
-
-pub settled_image : (disk : Memory) (end : ℕ) → IsSettled (meaning_of disk) end → reading (image disk) ≡ found (bodies_of (bytes_of disk))
-settled_image disk end s = ap reading (synced_image disk.first disk.calls disk.fill s.quiet) ∙ s.whole
-
--- what is left reads as this log
-pub left_disk : (disk left : Memory) (log : Log) → bytes_of left ≡ image disk → (bodies : List (List ℕ)) → reading (image disk) ≡ found bodies →
-    AreBodies [] bodies log → IsSound log → IsDisk left log
-left_disk disk left log e bodies is are sound = on_disk left bodies log (ap reading e ∙ is) are sound
-
-same_some : (g h : History) → Some g ≡ Some h → g ≡ h
-same_some g h e = cc
-
--- A put that stopped after its first call leaves the bodies from before it.
-module _ (law : (h : History) (end : ℕ) (body : List ℕ) (fill made : ℕ) → IsTrue (is_synced h.calls) → IsWhole (contents h.first h.calls) end → made ≤ 4 → length body < 2147483648 → StopKeeps h end body made fill)
-    (old new : Memory) (end : ℕ) (body : List ℕ) where
-  stopped : (made : ℕ) → made ≡ 1 → IsSettled (meaning_of old) end → length body < 2147483648 →
-      (meaning_of new).history ≡ recorded (take made (put_calls end body)) (meaning_of old).history → reading (image new) ≡ found (bodies_of (bytes_of old))
-  stopped made one s small is =
-      let g : History = record { first = old.first; calls = old.calls } in
-      let keeps : StopKeeps g end body 1 new.fill = law g end body new.fill 1 s.quiet (record { whole = s.whole; place = s.place; inside = s.inside; shut = s.shut }) (omega arith) small in
-      let there : (meaning_of new).history ≡ recorded (take 1 (put_calls end body)) (Some g) = subst (λ (k : ℕ). (meaning_of new).history ≡ recorded (take k (put_calls end body)) (Some g)) one is in
-      subst (λ (h : History). reading (image_of h.first h.calls new.fill) ≡ found (bodies_of (bytes_of old))) (sym (same_some _ _ there)) keeps
-
-  pub stopped_image : good_left old ≡ Some 1 → IsSettled (meaning_of old) end → length body < 2147483648 → StopsAt (put_calls end body) (λ _. IsTrue true) (meaning_of old) (meaning_of new) →
-      reading (image new) ≡ found (bodies_of (bytes_of old))
-  stopped_image good s small stops =
-      let one : Some stops.made ≡ Some 1 = sym (stops.good (plan_of old) refl refl) ∙ good in
-      stopped stops.made (ap (λ (o : Option ℕ). unwrap_or o 0) one) s small stops.history

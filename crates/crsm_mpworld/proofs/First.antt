@@ -1,5 +1,5 @@
 -- The first world, boot by boot.
-use Rattle.std.proofs.Common.{◌≡◌, ◌<◌, ◌+◌, ◌-◌, ℕ, suc, List, [], ◌∷◌, ◌++◌, length, map, set, Some, refl, ap, sym, ◌∙◌, subst, arith, append-nil}
+use Rattle.std.proofs.Common.{◌≡◌, ◌<◌, ◌≤◌, ◌+◌, ◌-◌, ℕ, zero, suc, List, [], ◌∷◌, ◌++◌, length, map, set, Some, refl, ap, sym, ◌∙◌, subst, arith, append-nil}
 use Rattle.std.specs.Prelude.{slice_get, sum_by, replicate}
 use Rattle.std.specs.List.{range_with_len, flat_map}
 use Rattle.std.specs.Option.{option_map_or}
@@ -11,11 +11,12 @@ use Rattle.std.proofs.lemmas.Grind.{flat_map-append}
 use Rattle.crsm_spec.specs.Lists.{numbers_below}
 use Rattle.crsm_mpspec.specs.declared.line.MpLine.{MpLine}
 use Rattle.crsm_mpspec.specs.Draft.{begun, keep, keep_as}
+use Rattle.crsm_mpspec.specs.Records.{body_bytes, rec_bytes}
 use Rattle.crsm_mpspec.specs.Step.{boot}
 use Rattle.crsm_mpspec.specs.World.{Site, World, Moment, begin, first_boot, first_lines, body_size, send_lines, whole_step, after_step, log_at, log_of}
 use Rattle.crsm_mpspec.specs.Moments.{start_at}
 use Rattle.crsm_mpworld.specs.declared.world.MpWorld.{MpWorld}
-use Rattle.crsm_mpworld.specs.Packets.{MpNetworkStands}
+use Rattle.crsm_mpworld.specs.Packets.{IsOpen, MpNetworkStands}
 use Rattle.crsm_mpworld.specs.Sites.{StandFor}
 use Rattle.crsm_mpworld.specs.World.{Holds, Leads}
 use Rattle.crsm_mpworld.proofs.Numbers.{range_more}
@@ -140,3 +141,22 @@ part_next n i w lines l h =
 
 pub lines_more : (n i : ℕ) (before more all : List MpLine) → before ≡ part_lines n i → more ≡ told_of n i → all ≡ before ++ more → all ≡ part_lines n (i + 1)
 lines_more n i before more all e f g = g ∙ ap (λ ls. ls ++ more) e ∙ ap (λ ls. part_lines n i ++ ls) f ∙ lines_next n i
+
+-- ---- the first boots are short
+
+one_byte : (n k : ℕ) → size_of n k ≡ 1
+unfolding size_of first_boot boot keep keep_as begun body_size body_bytes rec_bytes
+one_byte n k = refl
+
+few_bytes : (n i : ℕ) → sum_by (size_of n) (range_with_len 0 i) ≡ i
+few_bytes n zero = refl
+few_bytes n (suc i) =
+    let next = bytes_next n i in
+    let before = few_bytes n i in
+    let one = one_byte n i in
+    let now : sum_by (size_of n) (range_with_len 0 (i + 1)) ≡ i + 1 = omega (arith, next, before, one) in
+    let more : i + 1 ≡ suc i = omega arith in subst (λ (j : ℕ). sum_by (size_of n) (range_with_len 0 j) ≡ j) more now
+
+pub part_open : (n i : ℕ) (w : MpWorld) → i < n → n ≤ 15 → Holds w (part n i) → IsOpen w.network
+unfolding part
+part_open n i w l m h = let few = few_bytes n i in let counted = h.network.counted in omega (arith, few, counted, l, m)

@@ -1,7 +1,7 @@
 -- The sending of a step's output.
-use Rattle.std.proofs.Common.{◌≡◌, ◌≤◌, ◌+◌, ◌-◌, ℕ, zero, suc, min, List, [], ◌∷◌, ◌++◌, length, map, take, refl, sym, ap, ◌∙◌, subst, arith, append_assoc, append-nil, length-append}
+use Rattle.std.proofs.Common.{◌≡◌, ◌+◌, ℕ, zero, suc, min, List, [], ◌∷◌, ◌++◌, length, map, take, refl, sym, ap, ◌∙◌, subst, arith, append_assoc, append-nil, length-append}
 use Rattle.std.specs.List.{AllByRecursion}
-use Rattle.std.proofs.lemmas.List.{take-map, length-map, take_all}
+use Rattle.std.proofs.lemmas.List.{take-map, length-map}
 use Rattle.crsm_mpreplica.specs.Made.{to_send}
 use Rattle.crsm_mpspec.specs.declared.line.MpLine.{MpLine}
 use Rattle.crsm_mpspec.specs.declared.message.MpMessage.{MpMessage}
@@ -12,7 +12,6 @@ use Rattle.crsm_mpworld.specs.declared.network.MpNetwork.{MpNetwork}
 use Rattle.crsm_mpworld.specs.Effects.{HasSent, LetsOut}
 use Rattle.crsm_mpworld.specs.Fits.{FitsSend}
 use Rattle.crsm_mpworld.specs.Packets.{MpNetworkStands}
-use Rattle.std.specs.List.{enumerate_from}
 
 -- ---- one more
 

@@ -1,19 +1,28 @@
 -- Sites in memory and in the definitions, one by one.
-use Rattle.std.proofs.Common.{◌≡◌, ◌<◌, ◌≤◌, ◌+◌, ℕ, zero, suc, Bool, true, false, cond, ltb, List, [], ◌∷◌, ◌++◌, length, map, take, get_or, set, replicate, Some, None, Result, Ok, Err, refl, ap, sym, ◌∙◌, subst, arith, take_all}
-use Rattle.std.specs.Prelude.{slice_get}
+use Rattle.std.proofs.Common.{◌≡◌, ◌<◌, ◌≤◌, ◌+◌, ℕ, zero, suc, Bool, true, false, cond, ltb, List, [], ◌∷◌, ◌++◌, length, map, take, get_or, set, replicate, Some, None, refl, ap, sym, ◌∙◌, subst, arith, take_all}
+use Rattle.std.specs.Prelude.{IfSome, slice_get}
 use Rattle.std.specs.List.{enumerate_from}
 use Rattle.std.specs.Option.{option_map_or}
-use Rattle.std.specs.Result.{OkIff, result_ok}
 use Rattle.std.proofs.lemmas.Bool.{ltb-true, ltb-false, lt-ltb}
 use Rattle.std.proofs.lemmas.List.{take_more, map-append, replicate_more}
 use Rattle.std.proofs.lemmas.List.FromFn.{length-enumerate_from, get_or-enumerate_from}
 use Rattle.std.proofs.lemmas.Option.{slice_get_past, slice_get-get_or, get_or_from_slice_get}
-use Rattle.std.proofs.lemmas.Result.{OkIff-at_ok, OkIff-at_err}
 use Rattle.crsm_mpspec.specs.declared.line.MpLine.{MpLine}
 use Rattle.crsm_mpspec.specs.World.{Site as Place, is_up, final_line}
 use Rattle.crsm_mpworld.specs.declared.place.Site.{Site}
 use Rattle.crsm_mpworld.specs.declared.place.SiteState.{SiteState as PlaceInMemory}
+use Rattle.crsm_mpworld.proofs.Gets.{got}
 use Rattle.crsm_mpworld.specs.Sites.{IsIn, SiteStands, SitesStand, is_up_in, up_in}
+
+-- what is known of a site that was looked up, and of one that is taken by its number
+pub looked_up : (ss ys : List Site) (k : ℕ) (s : Site) (P : Site → Type 0) → ys ≡ ss → true ≡ ltb k (length ys) → s ≡ get_or ys k s → P s →
+    (k < length ss) × IfSome (slice_get ss k) P
+looked_up ss ys k s P e b is p =
+    let there = ap (λ xs. slice_get xs k) (sym e) ∙ got ys k s b is in
+    (let l = ltb-true k (length ys) (sym b) in let f = ap length e in omega (arith, l, f), subst (λ o. IfSome o P) (sym there) p)
+
+pub taken : (ss : List Site) (k : ℕ) (s : Site) (P : Site → Type 0) → k < length ss → s ≡ get_or ss k s → IfSome (slice_get ss k) P → P s
+taken ss k s P l is h = subst (λ o. IfSome o P) (slice_get-get_or ss k s l ∙ ap Some (sym is)) h
 
 module _ (n : ℕ) where
   pub sites_length : (k : ℕ) (ss : List Site) (ps : List Place) → SitesStand n k ss ps → length ss ≡ length ps
@@ -100,25 +109,6 @@ module _ (n : ℕ) where
       ∙ sym (map-append is_up (take i places) (r.0 ∷ []))
       ∙ ap (map is_up) (ap (λ p. take i places ++ p ∷ []) (sym (get_or_from_slice_get places i r.0 r.0 r.1)) ∙ sym (take_more places i r.0 (omega (arith, l, sites_length 0 ss places h))))
 
-  -- a site that stands has a small number
-  pub few_sites : (ss : List Site) (places : List Place) (k : ℕ) → SitesStand n 0 ss places → is_up_in places k ≡ true → k < 15
-  unfolding is_up_in
-  few_sites ss places k h e = small (site_of 0 ss places k h e)
-    where
-      site_of : (b : ℕ) (ss : List Site) (ps : List Place) (i : ℕ) → SitesStand n b ss ps → option_map_or is_up (slice_get ps i) false ≡ true →
-          (s : Site) × (p : Place) × SiteStands s (b + i) n p
-      site_of b [] [] i h e = cc
-      site_of b (s ∷ ss) (p ∷ ps) zero h e = (s, p, let z : b ≡ b + 0 = omega arith in subst (λ (j : ℕ). SiteStands s j n p) z h.0)
-      site_of b (s ∷ ss) (p ∷ ps) (suc i) h e =
-          let r = site_of (suc b) ss ps i h.1 e in
-          let z : suc b + i ≡ b + suc i = omega arith in
-          (r.0, r.1, subst (λ (j : ℕ). SiteStands r.0 j n r.1) z r.2)
-      site_of b [] (p ∷ ps) i h e = absurd h
-      site_of b (s ∷ ss) [] i h e = absurd h
-
-      small : (s : Site) × (p : Place) × SiteStands s (0 + k) n p → k < 15
-      small r = let s = r.0 in let m = s.mine in let t = s.most in let i = r.2.me_is in omega arith
-
   -- ---- the last lines
 
   pub finals_next : (ss : List Site) (places : List Place) (i : ℕ) (s : Site) (lines : List MpLine) (line : MpLine) → SitesStand n 0 ss places → i < length ss →
@@ -160,7 +150,3 @@ up_some places k e = sym (ap (λ b. cond b (Some k) None) e)
 pub up_none : (places : List Place) (k : ℕ) → is_up_in places k ≡ false → None ≡ up_in places k
 unfolding up_in
 up_none places k e = sym (ap (λ b. cond b (Some k) None) e)
-
-pub ok_from : {E : Type 0} (r : Result ℕ E) (P : Type 0) (v : ℕ) → OkIff r P v → P → result_ok r ≡ Some v
-ok_from {E} (Ok x) P v i p = let e : P × (x ≡ v) = OkIff-at_ok {E = E} (Ok x) P v x i refl in ap Some e.1
-ok_from {E} (Err d) P v i p = absurd (OkIff-at_err {E = E} (Err d) P v d i refl p)

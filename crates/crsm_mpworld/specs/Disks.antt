@@ -2,12 +2,13 @@
 use Rattle.std.specs.Prelude.{◌≡◌, List, [], ℕ}
 use Rattle.crsm_disk.specs.Memory.{Memory}
 use Rattle.crsm_port_image.specs.Calls.{contents}
-use Rattle.crsm_port_image.specs.Image.{image_of}
 use Rattle.crsm_log.specs.Format.{reading, found, bodies_of}
 use Rattle.crsm_log.specs.Words.{disk_of}
 use Rattle.crsm_log.specs.declared.log.Log.{Log as DiskLog}
 use Rattle.crsm_mpspec.specs.Log.{Log}
 use Rattle.crsm_mpspec.specs.Replica.{Replica}
+use Rattle.crsm_mpledger.specs.declared.ledger.MpLedger.{MpLedger}
+use Rattle.crsm_mpledger.specs.MpLedger.{MpLedgerStands}
 use Rattle.crsm_mpledger.specs.Sound.{IsSound, AreBodies}
 use Rattle.crsm_mpcore.specs.declared.replica.MpCore.{MpCore}
 use Rattle.crsm_mpcore.specs.Core.{MpCoreStands}
@@ -15,10 +16,6 @@ use Rattle.crsm_mpcore.specs.Core.{MpCoreStands}
 -- the bytes that a read of the disk gives
 abbrev pub bytes_of : Memory → List ℕ
 bytes_of disk = contents disk.first disk.calls
-
--- those that a crash leaves
-abbrev pub image : Memory → List ℕ
-image disk = image_of disk.first disk.calls disk.fill
 
 -- the disk holds the bodies of this log
 pub record IsDisk (disk : Memory) (log : Log) : Type 0 where
@@ -31,10 +28,15 @@ pub record IsUpOn (core : MpCore) {g : _} (on_disk : DiskLog Memory g) (r : Repl
   pub stands : MpCoreStands core r
   pub kept : IsDisk (disk_of on_disk) r.log
 
--- some log is on the disk
-pub record HasSomeLog (disk : Memory) : Type 0 where
+-- a ledger is that of a log, which is on the disk
+pub record IsLeft (ledger : MpLedger) {g : _} (on_disk : DiskLog Memory g) (log : Log) : Type 0 where
+  pub stands : MpLedgerStands ledger log
+  pub kept : IsDisk (disk_of on_disk) log
+
+-- of some log
+pub record IsSomeLeft (ledger : MpLedger) {g : _} (on_disk : DiskLog Memory g) : Type 0 where
   pub log : Log
-  pub is : IsDisk disk log
+  pub is : IsLeft ledger on_disk log
 
 -- some replica is up with it
 pub record IsSomeUp (core : MpCore) {g : _} (on_disk : DiskLog Memory g) : Type 0 where

@@ -1,7 +1,8 @@
 -- The messages of a world, in memory.
-use Rattle.std.specs.Prelude.{◌≡◌, ◌<◌, ℕ, Bool, ◌&&◌, not, true, false, List, map, filter, length, Option, Some, option_map, slice_get, slice_set}
+use Rattle.std.specs.Prelude.{◌≡◌, ◌<◌, ◌+◌, ◌^◌, ℕ, Bool, ◌&&◌, not, true, false, List, map, filter, length, Option, Some, option_map, slice_get, slice_set}
 use Rattle.std.specs.List.{AllByRecursion, range_with_len}
 use Rattle.std.specs.Option.{option_map_or}
+use Rattle.crsm_base.specs.Limits.{most_world}
 use Rattle.crsm_mpspec.specs.declared.input.MpInput.{MpInput}
 use Rattle.crsm_mpspec.specs.World.{Packet as PacketOnPaper}
 use Rattle.crsm_mpreplica.specs.Fitting.{FitsMessage}
@@ -63,6 +64,14 @@ pub record MpNetworkStands (network : MpNetwork) (packets : List PacketOnPaper) 
   pub fresh : HasFresh (λ k. true) packets network.fresh.items
   pub near : HasFresh (is_up_among network.ups.items) packets network.near.items
   pub counted : network.bytes ≡ bytes
+
+-- the world's size is below its limit
+abbrev pub IsOpen : MpNetwork → Type 0
+IsOpen network = network.bytes < most_world
+
+-- this many bytes more can be counted
+abbrev pub HasRoom : MpNetwork → ℕ → Type 0
+HasRoom network size = network.bytes + size < 2 ^ 64
 
 -- for the packets and the count of bytes that the network has
 abbrev pub WhereNetwork : MpNetwork → (List PacketOnPaper → ℕ → Type 0) → Type 0

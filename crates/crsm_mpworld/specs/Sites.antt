@@ -1,20 +1,20 @@
 -- The simulated replicas in memory.
-use Rattle.std.specs.Prelude.{◌≡◌, ℕ, ◌+◌, suc, Bool, false, List, [], ◌∷◌, length, Option, None, Some, if◌then◌else◌, slice_get, slice_set}
+use Rattle.std.specs.Prelude.{◌≡◌, ◌<◌, ℕ, ◌+◌, suc, Bool, false, List, [], ◌∷◌, length, Option, None, Some, IfSome, if◌then◌else◌, slice_get, slice_set}
 use Rattle.std.specs.Option.{option_map_or}
-use Rattle.crsm_mpspec.specs.Log.{Log, executed, boots}
+use Rattle.crsm_mpspec.specs.Log.{Log, boots}
 use Rattle.crsm_mpspec.specs.Replica.{Replica}
 use Rattle.crsm_mpspec.specs.Draft.{Draft}
 use Rattle.crsm_mpspec.specs.Step.{boot}
 use Rattle.crsm_mpspec.specs.World.{Site as SiteOnPaper, is_up, body_size}
 use Rattle.crsm_mpreplica.specs.Made.{Answers, outcome_of}
-use Rattle.crsm_mpworld.specs.Disks.{IsDisk, IsUpOn}
+use Rattle.crsm_mpworld.specs.Disks.{IsLeft, IsUpOn}
 use Rattle.crsm_mpworld.specs.declared.place.SiteState.{SiteState}
 use Rattle.crsm_mpworld.specs.declared.place.Running.{Running}
 use Rattle.crsm_mpworld.specs.declared.place.Site.{Site}
 use Rattle.crsm_mpworld.specs.declared.place.MpStopped.{MpStopped}
 use Rattle.crsm_mpworld.specs.declared.site.MpStep.{MpStep}
 use Rattle.crsm_mpworld.specs.declared.sites.Sites.{Sites}
-use Rattle.crsm_mpworld.specs.declared.stops.BootSize.{BootSize}
+use Rattle.crsm_mpworld.specs.declared.place.BootSize.{BootSize}
 
 -- ---- one replica
 
@@ -28,9 +28,8 @@ abbrev pub WhereUpAs : Running → (Replica → Type 0) → Type 0
 WhereUpAs running P = (r : Replica) → IsUpAs running r → P r
 
 -- the replica is down, and left this log
-pub record IsStopped (left : MpStopped) (log : Log) : Type 0 where
-  pub disk : IsDisk left.disk log
-  pub executed_is : left.executed ≡ length (executed log)
+abbrev pub IsStopped : MpStopped → Log → Type 0
+IsStopped left log = IsLeft left.ledger left.log log
 
 abbrev pub IsIn : SiteState → SiteOnPaper → Type 0
 IsIn (SiteState.Up running) (SiteOnPaper.Up r) = IsUpAs running r
@@ -38,6 +37,15 @@ IsIn (SiteState.Up running) (SiteOnPaper.Down log) = ⊥
 IsIn (SiteState.Down left) (SiteOnPaper.Up r) = ⊥
 IsIn (SiteState.Down left) (SiteOnPaper.Down log) = IsStopped left log
 IsIn SiteState.Spent s = ⊥
+
+-- the replica is not down, and the replica is not up; it is neither where memory ran out
+abbrev pub IsNotDown : SiteState → Type 0
+IsNotDown (SiteState.Down left) = ⊥
+IsNotDown _ = Unit {0}
+
+abbrev pub IsNotUp : SiteState → Type 0
+IsNotUp (SiteState.Up running) = ⊥
+IsNotUp _ = Unit {0}
 
 -- the site of replica me of n is this one of the definitions
 pub record SiteStands (site : Site) (me n : ℕ) (s : SiteOnPaper) : Type 0 where
@@ -81,6 +89,20 @@ SitesStand n k (site ∷ sites) [] = ⊥
 -- they stand for these places
 abbrev pub StandFor : Sites → ℕ → List SiteOnPaper → Type 0
 StandFor sites n places = SitesStand n 0 sites.items.items places
+
+-- there is a replica k
+abbrev pub IsOne : Sites → ℕ → Type 0
+IsOne sites k = k < length sites.items.items
+
+-- a replica k that is up can step
+pub record CanStep (sites : Sites) (k : ℕ) : Type 0 where
+  pub there : IsOne sites k
+  pub not_down : IfSome (slice_get sites.items.items k) (λ site. IsNotDown site.place)
+
+-- one that is down can boot
+pub record CanStart (sites : Sites) (k : ℕ) : Type 0 where
+  pub there : IsOne sites k
+  pub not_up : IfSome (slice_get sites.items.items k) (λ site. IsNotUp site.place)
 
 -- replica k is up
 unfoldable pub is_up_in : List SiteOnPaper → ℕ → Bool

@@ -1,6 +1,6 @@
 //! The checks whether an event is possible, in the order of their reasons.
 
-ghost use Rattle.std.specs.Prelude.{◌≡◌, ℕ, false, nat_le, nat_lt};
+ghost use Rattle.std.specs.Prelude.{◌≡◌, ℕ, false, nat_le, nat_lt, IsOk};
 ghost use Rattle.std.specs.List.{list_any};
 ghost use Rattle.crsm_spec.specs.Acts.{Act, Single as OneStep};
 ghost use Rattle.crsm_spec.specs.Paxos as paxos;
@@ -8,6 +8,7 @@ ghost use Rattle.crsm_mpspec.specs.Possible as possible;
 ghost use Rattle.crsm_mpspec.specs.World as on_paper;
 ghost use Rattle.crsm_mpworld.specs.Doing.{act_of, single_of};
 ghost use Rattle.crsm_mpworld.specs.Refusing.{Answers, first_met};
+ghost use Rattle.crsm_mpworld.specs.Packets.{IsOpen};
 ghost use Rattle.crsm_mpworld.specs.World.{Holds, WhereHolds};
 
 use crate::world::MpWorld;
@@ -203,7 +204,8 @@ impl MpWorld {
 
     /// Checks that an event is possible. The error is the first reason why it is not.
     pub(crate) fn check(&self, event: &Event) -> Result<(), MpBad>
-        ensures { WhereHolds self.now (λ v. Answers result (possible.possible v (act_of event.now))) }
+        ensures room { IsOk result → IsOpen self.now.network }
+        ensures cause { WhereHolds self.now (λ v. Answers result (possible.possible v (act_of event.now))) }
     {
         if is_not_here(event) {
             return Err(MpBad::NotHere);

@@ -7,6 +7,7 @@ ghost use Rattle.crsm_mpspec.specs.Moments as moments;
 ghost use Rattle.crsm_mpspec.specs.declared.input.MpInput.{MpInput as Input};
 ghost use Rattle.crsm_mpworld.specs.Doing.{single_of};
 ghost use Rattle.crsm_mpworld.specs.Effects.{WorldLeadsOn, each_gone, ending_of};
+ghost use Rattle.crsm_mpworld.specs.Packets.{IsOpen};
 ghost use Rattle.crsm_mpworld.specs.World.{Leads, WhereHolds};
 ghost use Rattle.crsm_schedule.specs.Grammar.{FitsSingle};
 ghost use Rattle.crsm_spec.specs.Acts.{Act, Single as OneStep};
@@ -28,7 +29,8 @@ impl MpWorld {
         input: &MpInput,
         lines: &mut MpLines,
     ) -> Result<(), NoMemory>
-        requires { FitsInput input.now }
+        requires fits { FitsInput input.now }
+        requires room { IsOpen self.old.network }
         ensures { OnOk result (WhereHolds self.old (λ v.
             WorldLeadsOn (moments.step_at (ending_of ending) v k input.now 0) self.new lines.old lines.new)) }
     {
@@ -39,6 +41,7 @@ impl MpWorld {
 
     /// Delivers the message with this number to its receiver. Nothing happens if that is down.
     fn come(&mut self, ending: MpEnding, number: u64, lines: &mut MpLines) -> Result<(), NoMemory>
+        requires { IsOpen self.old.network }
         ensures { OnOk result (WhereHolds self.old (λ v.
             WorldLeadsOn (moments.come (ending_of ending) v (slice_get v.packets number)) self.new lines.old lines.new)) }
     {
@@ -54,6 +57,7 @@ impl MpWorld {
 
     /// Marks the message with this number as used, and delivers it to its receiver.
     fn go(&mut self, ending: MpEnding, number: u64, lines: &mut MpLines) -> Result<(), NoMemory>
+        requires { IsOpen self.old.network }
         ensures { OnOk result (WhereHolds self.old (λ v. (reading : ℕ) →
             WorldLeadsOn (moments.single (ending_of ending) v (OneStep.Go number reading)) self.new lines.old lines.new)) }
     {
@@ -70,7 +74,8 @@ impl MpWorld {
         command: &Command,
         lines: &mut MpLines,
     ) -> Result<(), NoMemory>
-        requires { FitsCommand command.now }
+        requires fits { FitsCommand command.now }
+        requires room { IsOpen self.old.network }
         ensures { OnOk result (WhereHolds self.old (λ v.
             WorldLeadsOn (moments.step_at (ending_of ending) v k (Input.Request command.now) 0) self.new lines.old lines.new)) }
     {
@@ -86,7 +91,8 @@ impl MpWorld {
         single: &Single,
         lines: &mut MpLines,
     ) -> Result<(), NoMemory>
-        requires { FitsSingle single.now }
+        requires fits { FitsSingle single.now }
+        requires room { IsOpen self.old.network }
         ensures { OnOk result (WhereHolds self.old (λ v.
             WorldLeadsOn (moments.single (ending_of ending) v (single_of single.now)) self.new lines.old lines.new)) }
     {
@@ -115,7 +121,8 @@ impl MpWorld {
         ending: MpEnding,
         single: &Single,
     ) -> Result<MpLines, NoMemory>
-        requires { FitsSingle single.now }
+        requires fits { FitsSingle single.now }
+        requires room { IsOpen self.old.network }
         ensures { IfOk result (λ lines. WhereHolds self.old (λ v. Leads (moments.single (ending_of ending) v (single_of single.now)) self.new lines)) }
     {
         let mut lines = self.no_lines();

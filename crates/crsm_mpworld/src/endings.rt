@@ -6,7 +6,7 @@ ghost use Rattle.crsm_mpspec.specs.Moments.{step_at};
 ghost use Rattle.crsm_mpspec.specs.Step as steps;
 ghost use Rattle.crsm_mpspec.specs.World as on_paper;
 ghost use Rattle.crsm_mpworld.specs.Effects.{FitsEffects, Leaves, WhereSites, WhereUpIn, ending_of};
-ghost use Rattle.crsm_mpworld.specs.Sites.{StandFor};
+ghost use Rattle.crsm_mpworld.specs.Sites.{CanStep, IsOne};
 
 use crate::ending::{MpEffects, MpEnding};
 use crate::sites::Sites;
@@ -16,7 +16,8 @@ use crsm_mpspec::MpInput;
 impl Sites {
     /// Runs a whole step of a replica that is up.
     fn step_whole(&mut self, k: u32, input: &MpInput, from: u32) -> Result<MpEffects, NoMemory>
-        requires { FitsInput input.now }
+        requires fits { FitsInput input.now }
+        requires up { CanStep self.old k }
         ensures leaves { IfOk result (λ effects. WhereUpIn self.old k (λ v r.
             Leaves (on_paper.whole_step v k (steps.step r input.now from)) v effects self.new)) }
         ensures fits { IfOk result (λ effects. FitsEffects effects) }
@@ -34,7 +35,8 @@ impl Sites {
         input: &MpInput,
         from: u32,
     ) -> Result<MpEffects, NoMemory>
-        requires { FitsInput input.now }
+        requires fits { FitsInput input.now }
+        requires up { CanStep self.old k }
         ensures leaves { IfOk result (λ effects. WhereUpIn self.old k (λ v r.
             Leaves (on_paper.cut_step sends v k (steps.step r input.now from)) v effects self.new)) }
         ensures fits { IfOk result (λ effects. FitsEffects effects) }
@@ -44,19 +46,9 @@ impl Sites {
         Ok(MpEffects::Cut { k, step, sends })
     }
 
-    /// Runs a step of a replica that is up, whose records are lost.
-    fn step_stopped(&mut self, k: u32, input: &MpInput, from: u32) -> Result<MpEffects, NoMemory>
-        requires { FitsInput input.now }
-        ensures leaves { IfOk result (λ effects. WhereUpIn self.old k (λ v r.
-            Leaves (on_paper.lost_step v k (steps.step r input.now from)) v effects self.new)) }
-        ensures fits { IfOk result (λ effects. FitsEffects effects) }
-    {
-        self.step_lost(k, input, from)?;
-        Ok(MpEffects::Down { k })
-    }
-
     /// Takes a replica down with the content of its disk.
     pub(crate) fn go_down(&mut self, k: u32) -> Result<MpEffects, NoMemory>
+        requires { IsOne self.old k }
         ensures leaves { IfOk result (λ effects. WhereSites self.old (λ v. (p : on_paper.Site) → slice_get v.sites k ≡ Some p →
             Leaves (on_paper.down v k) v effects self.new)) }
         ensures fits { IfOk result (λ effects. FitsEffects effects) }
@@ -85,7 +77,8 @@ impl Sites {
         match ending {
             MpEnding::Whole => Ok(self.step_whole(k, input, from)?),
             MpEnding::Kept { sends } => Ok(self.step_kept(k, sends, input, from)?),
-            MpEnding::Lost => Ok(self.step_stopped(k, input, from)?),
+            // Nothing of the step is left, so it is not run.
+            MpEnding::Lost => Ok(self.go_down(k)?),
         }
     }
 }

@@ -6,6 +6,7 @@ ghost use Rattle.crsm_mpspec.specs.Moments.{act, start_at};
 ghost use Rattle.crsm_mpspec.specs.Possible.{possible};
 ghost use Rattle.crsm_mpspec.specs.World as on_paper;
 ghost use Rattle.crsm_mpworld.specs.Doing.{act_of};
+ghost use Rattle.crsm_mpworld.specs.Packets.{IsOpen};
 ghost use Rattle.crsm_mpworld.specs.World.{Leads, WhereHolds};
 ghost use Rattle.crsm_schedule.specs.Grammar.{FitsEvent};
 ghost use Rattle.crsm_spec.specs.Acts.{Act};
@@ -13,7 +14,7 @@ ghost use Rattle.crsm_spec.specs.Acts.{Act};
 use crate::ending::MpEnding;
 use crate::outgoing::leave;
 use crate::world::MpWorld;
-use crsm_base::{NoMemory, never};
+use crsm_base::NoMemory;
 use crsm_mpspec::{MpLine, MpLines};
 use crsm_schedule::Event;
 
@@ -29,6 +30,7 @@ impl MpWorld {
 
     /// Takes down a replica that is up.
     fn crash(&mut self, replica: u64) -> Result<MpLines, NoMemory>
+        requires { IsOpen self.old.network }
         ensures { IfOk result (λ lines. WhereHolds self.old (λ v. on_paper.is_up_at v replica ≡ true → Leads (on_paper.down v replica) self.new lines)) }
     {
         let mut lines = self.no_lines();
@@ -42,16 +44,16 @@ impl MpWorld {
 
     /// Boots a replica that is down.
     pub(crate) fn start(&mut self, replica: u64) -> Result<MpLines, NoMemory>
+        requires { IsOpen self.old.network }
         ensures { IfOk result (λ lines. WhereHolds self.old (λ v. (log : Log) → slice_get v.sites replica ≡ Some (on_paper.Site.Down log) →
             Leads (start_at v replica) self.new lines)) }
     {
         let mut lines = self.no_lines();
-        // There are at most 15.
-        let Ok(k) = u32::try_from(replica) else {
-            return Err(never());
+        let Some(k) = self.sites.down(replica) else {
+            return Ok(lines);
         };
         let boot = self.sites.start(k)?;
-        self.network.keep(boot.size)?;
+        self.network.keep(boot.size);
         lines.push(MpLine::Boot {
             replica: k,
             count: boot.count,
@@ -61,7 +63,8 @@ impl MpWorld {
 
     /// Executes an event that is possible, and returns its lines.
     pub(crate) fn happen(&mut self, event: &Event) -> Result<MpLines, NoMemory>
-        requires { FitsEvent event.now }
+        requires fits { FitsEvent event.now }
+        requires room { IsOpen self.old.network }
         ensures { IfOk result (λ lines. WhereHolds self.old (λ v. possible v (act_of event.now) ≡ None → Leads (act v (act_of event.now)) self.new lines)) }
     {
         match event {

@@ -5,7 +5,7 @@ ghost use Rattle.std.specs.List.{AllByRecursion};
 ghost use Rattle.crsm_mpreplica.specs.Made.{to_send};
 ghost use Rattle.crsm_mpspec.specs.declared.message.MpMessage.{MpMessage as Message};
 ghost use Rattle.crsm_mpworld.specs.Effects.{FitsEffects, HasSent, LeadsOn, LetsOut, LetsOutSome, WhereLeft, WhereMade};
-ghost use Rattle.crsm_mpworld.specs.Packets.{WhereNetwork};
+ghost use Rattle.crsm_mpworld.specs.Packets.{IsOpen, WhereNetwork};
 ghost use Rattle.crsm_mpworld.specs.Fits.{FitsSend};
 
 use crate::ending::MpEffects;
@@ -61,7 +61,8 @@ fn let_out(
     count: u64,
     lines: &mut MpLines,
 ) -> Result<(), NoMemory>
-    requires { AllByRecursion FitsSend step.batch.sends }
+    requires fits { AllByRecursion FitsSend step.batch.sends }
+    requires room { IsOpen network.old }
     ensures { OnOk result (WhereMade network.old step (λ packets bytes x. LetsOutSome count lines.old packets bytes k x network.new lines.new)) }
 {
     let MpStep { batch, size } = step;
@@ -69,7 +70,7 @@ fn let_out(
     let mut sends = batch.sends;
     let mut replies = batch.replies;
     let made = sends.as_slice().len() as u64;
-    network.keep(size)?;
+    network.keep(size);
     lines.append(&mut own)?;
     sends.truncate(count.min(made) as usize);
     send_all(network, k, sends, lines)?;
@@ -85,13 +86,14 @@ fn let_all_out(
     step: MpStep,
     lines: &mut MpLines,
 ) -> Result<(), NoMemory>
-    requires { AllByRecursion FitsSend step.batch.sends }
+    requires fits { AllByRecursion FitsSend step.batch.sends }
+    requires room { IsOpen network.old }
     ensures { OnOk result (WhereMade network.old step (λ packets bytes x. LetsOut lines.old packets bytes k x x.sends x.replies network.new lines.new)) }
 {
     let MpStep { batch, size } = step;
     let mut own = batch.lines;
     let mut replies = batch.replies;
-    network.keep(size)?;
+    network.keep(size);
     lines.append(&mut own)?;
     send_all(network, k, batch.sends, lines)?;
     lines.append(&mut replies)?;
@@ -104,7 +106,8 @@ pub(crate) fn leave(
     effects: MpEffects,
     lines: &mut MpLines,
 ) -> Result<(), NoMemory>
-    requires { FitsEffects effects }
+    requires fits { FitsEffects effects }
+    requires room { IsOpen network.old }
     ensures { OnOk result (WhereLeft network.old effects (λ m v sites. LeadsOn m v.n sites network.new lines.old lines.new)) }
 {
     match effects {

@@ -1,15 +1,15 @@
 //! Recording of sent messages, and their readers.
 
-ghost use Rattle.std.specs.Prelude.{◌≡◌, ◌+◌, ◌++◌, ◌∷◌, [], nat_le, length, slice_get, None, IfSome, MatchOption, OnOk};
+ghost use Rattle.std.specs.Prelude.{◌≡◌, ◌+◌, ◌++◌, ◌∷◌, [], false, nat_le, length, slice_get, None, IfSome, MatchOption, OnOk};
 ghost use Rattle.crsm_base.specs.Limits.{most_world};
 ghost use Rattle.std.specs.List.{AllByRecursion};
 ghost use Rattle.crsm_mpspec.specs.World as on_paper;
 ghost use Rattle.crsm_mpworld.specs.Fits.{FitsPacket};
 ghost use Rattle.crsm_mpreplica.specs.Fitting.{FitsInput, FitsMessage};
-ghost use Rattle.crsm_mpworld.specs.Packets.{MpNetworkStands, IsPacketAt, WhereNetwork, is_used_at, receiver_of, used_up};
+ghost use Rattle.crsm_mpworld.specs.Packets.{HasRoom, IsOpen, IsPacketAt, MpNetworkStands, WhereNetwork, is_used_at, receiver_of, used_up};
 
 use crate::network::{MpNetwork, Packet};
-use crsm_base::{MAX_WORLD_BYTES, NoMemory, never};
+use crsm_base::{MAX_WORLD_BYTES, NoMemory};
 use crsm_mpspec::{MpInput, MpSend};
 use std::alloc::Global;
 
@@ -46,18 +46,18 @@ impl MpNetwork {
 
     /// Returns whether the world's size is at its limit or above.
     pub(crate) fn is_full(&self) -> bool
-        ensures { WhereNetwork self.now (λ packets bytes. result ≡ nat_le most_world bytes) }
+        ensures full { WhereNetwork self.now (λ packets bytes. result ≡ nat_le most_world bytes) }
+        ensures room { result ≡ false → IsOpen self.now }
     {
         MAX_WORLD_BYTES <= self.bytes
     }
 
     /// Adds `size` bytes of log bodies to the world's size.
-    pub(crate) fn keep(&mut self, size: u64) -> Result<(), NoMemory>
-        ensures { OnOk result (WhereNetwork self.old (λ packets bytes. MpNetworkStands self.new packets (bytes + size))) }
+    pub(crate) fn keep(&mut self, size: u64)
+        requires { HasRoom self.old size }
+        ensures { WhereNetwork self.old (λ packets bytes. MpNetworkStands self.new packets (bytes + size)) }
     {
-        // All these bytes are in memory, so that the sum does not overflow.
-        self.bytes = self.bytes.checked_add(size).ok_or(never())?;
-        Ok(())
+        self.bytes += size;
     }
 
     /// Returns the number of messages sent.
@@ -100,7 +100,8 @@ impl MpNetwork {
 
     /// Marks the message with this number as used.
     pub(crate) fn use_up(&mut self, number: u64)
-        ensures { WhereNetwork self.old (λ packets bytes. MpNetworkStands self.new (used_up number packets) bytes) }
+        ensures room { IsOpen self.old → IsOpen self.new }
+        ensures used { WhereNetwork self.old (λ packets bytes. MpNetworkStands self.new (used_up number packets) bytes) }
     {
         if number < self.packets.len() as u64 {
             let packet = &mut self.packets[number as usize];

@@ -1,13 +1,14 @@
-//! The states of a simulated replica.
+//! The states of a simulated replica, and its boot.
 
-ghost use Rattle.std.specs.Prelude.{◌≡◌, ◌<◌, ◌≤◌, None, false};
+ghost use Rattle.std.specs.Prelude.{◌≡◌, ◌<◌, ◌≤◌, ◌^◌, None, false};
 ghost use Rattle.crsm_disk.specs.Memory.{good_left};
 ghost use Rattle.crsm_log.specs.Words.{disk_of, has_failed};
-ghost use Rattle.crsm_mpworld.specs.Disks.{HasSomeLog, IsSomeUp};
+ghost use Rattle.crsm_mpworld.specs.Disks.{IsSomeLeft, IsSomeUp};
 
 use crsm_disk::MemDisk;
 use crsm_log::Log;
 use crsm_mpcore::MpCore;
+use crsm_mpledger::MpLedger;
 use std::alloc::Global;
 
 /// A replica that is up: its core, and its log on a disk whose calls do not fail. After an error it is spent.
@@ -22,13 +23,15 @@ pub(crate) struct Running {
     ghost stands: { is_spent ≡ false → ∥ IsSomeUp core log ∥₁ },
 }
 
-/// A replica that is down: its disk, and the number of slots executed by its log.
+/// A replica that is down: its log, on a disk whose calls do not fail, and the ledger of that log. All of the log was
+/// synced, so a crash leaves it as it is.
 #[derive(Drop)]
 pub(crate) struct MpStopped {
-    pub(crate) disk: MemDisk,
-    pub(crate) executed: u64,
-    ghost well: { good_left disk ≡ None },
-    ghost stands: { ∥ HasSomeLog disk ∥₁ },
+    pub(crate) log: Log<MemDisk>,
+    pub(crate) ledger: MpLedger,
+    ghost unfailed: { has_failed log ≡ false },
+    ghost well: { good_left (disk_of log) ≡ None },
+    ghost stands: { ∥ IsSomeLeft ledger log ∥₁ },
 }
 
 /// The state of a simulated replica: up, down, or spent.
@@ -49,4 +52,12 @@ pub(crate) struct Site {
     pub(crate) place: SiteState,
     ghost mine: { me < n },
     ghost most: { n ≤ 15 },
+}
+
+/// A boot: its number, and the length of its log body in bytes.
+#[derive(Clone, Copy)]
+pub(crate) struct BootSize {
+    pub(crate) count: u64,
+    pub(crate) size: u64,
+    ghost small: { size < 2 ^ 63 },
 }

@@ -1,6 +1,6 @@
 //! The steps of one replica.
 
-ghost use Rattle.std.specs.Prelude.{◌≡◌, ◌++◌, ◌∷◌, ◌<◌, [], None, false, length, IfOk, OnOk};
+ghost use Rattle.std.specs.Prelude.{◌≡◌, ◌++◌, ◌∷◌, ◌<◌, ◌^◌, [], None, false, length, IfOk, OnOk};
 ghost use Rattle.std.specs.List.{AllByRecursion};
 ghost use Rattle.crsm_disk.specs.Memory.{good_left};
 ghost use Rattle.crsm_log.specs.Format.{reading, found, bodies_of};
@@ -12,13 +12,13 @@ ghost use Rattle.crsm_mpspec.specs.Log.{Log as LogOnPaper, executed};
 ghost use Rattle.crsm_mpspec.specs.Records.{FitsRec, body_bytes};
 ghost use Rattle.crsm_mpspec.specs.Step as steps;
 ghost use Rattle.crsm_mpspec.specs.World.{body_size};
-ghost use Rattle.crsm_mpworld.specs.Disks.{IsDisk, bytes_of, image};
+ghost use Rattle.crsm_mpworld.specs.Disks.{IsDisk, bytes_of};
 ghost use Rattle.crsm_mpworld.specs.Fits.{FitsSend};
 
 use crate::place::{MpStopped, Running};
 use crsm_base::{Bytes, NoMemory, never};
 use crsm_disk::MemDisk;
-use crsm_log::{Log, PutError, stop_keeps};
+use crsm_log::{Log, PutError};
 use crsm_mpcore::MpCore;
 use crsm_mpledger::put_body;
 use crsm_mpspec::{MpBatch, MpInput, MpRec};
@@ -29,7 +29,11 @@ use std::alloc::Global;
 pub(crate) struct MpStep {
     pub(crate) batch: MpBatch,
     pub(crate) size: u64,
+    ghost small: { size < 2 ^ 63 },
 }
+
+/// Memory in bytes reserved for a log body; few bodies are longer.
+const BODY_ROOM: usize = 64;
 
 /// Returns the log body of records.
 pub(crate) fn body_of(alloc: Global, records: &[MpRec]) -> Result<Bytes, NoMemory>
@@ -37,6 +41,7 @@ pub(crate) fn body_of(alloc: Global, records: &[MpRec]) -> Result<Bytes, NoMemor
     ensures { IfOk result (λ body. body ≡ body_bytes records.now) }
 {
     let mut body = Bytes::new(alloc);
+    body.reserve(BODY_ROOM)?;
     put_body(records, &mut body)?;
     Ok(body)
 }
@@ -68,6 +73,7 @@ fn keep_records(alloc: Global, log: &mut Log<MemDisk>, records: &[MpRec]) -> Res
     ensures unfailed { OnOk result (has_failed log.new ≡ false) }
     ensures well { OnOk result (good_left (disk_of log.new) ≡ None) }
     ensures size { IfOk result (λ size. size ≡ body_size records.now) }
+    ensures small { IfOk result (λ size. size < 2 ^ 63) }
     ensures kept { OnOk result ((kept : LogOnPaper) → IsDisk (disk_of log.old) kept → IsSound (with_records kept records.now) →
         IsDisk (disk_of log.new) (with_records kept records.now)) }
 {
@@ -77,39 +83,6 @@ fn keep_records(alloc: Global, log: &mut Log<MemDisk>, records: &[MpRec]) -> Res
     let body = body_of(alloc, records)?;
     keep(alloc, log, body.as_slice())?;
     Ok(body.as_slice().len() as u64)
-}
-
-/// Puts the records of a step, if there are any, on a disk that stops after one call, with the byte 1 in the ranges
-/// that were not synced: a crash then leaves the log without them.
-fn put_in_vain(alloc: Global, log: &mut Log<MemDisk>, records: &[MpRec]) -> Result<(), NoMemory>
-    requires fit { AllByRecursion FitsRec records.now }
-    requires unfailed { has_failed log.old ≡ false }
-    requires well { good_left (disk_of log.old) ≡ None }
-    ensures { OnOk result (reading (image (disk_of log.new)) ≡ found (bodies_of (bytes_of (disk_of log.old)))) }
-{
-    if records.is_empty() {
-        return Ok(());
-    }
-    let body = body_of(alloc, records)?;
-    stop_keeps();
-    log.arm(Some(1), 1);
-    match log.put(alloc, body.as_slice()) {
-        Err(PutError::DiskFault) => Ok(()),
-        Err(PutError::NoMemory) => Err(NoMemory),
-        Ok(()) => unreachable!(),
-        Err(PutError::Failed) => unreachable!(),
-        // A world is full long before a log is.
-        Err(PutError::Full { .. }) => Err(never()),
-    }
-}
-
-/// Returns the disk of a log as a crash leaves it.
-fn left_on(log: Log<MemDisk>) -> Result<MemDisk, NoMemory>
-    ensures well { IfOk result (λ disk. good_left disk ≡ None) }
-    ensures image { IfOk result (λ disk. bytes_of disk ≡ image (disk_of log)) }
-{
-    let disk = log.into_disk();
-    Ok(disk.into_image()?)
 }
 
 /// Returns the number of executed slots.
@@ -160,29 +133,7 @@ impl Running {
         if is_spent {
             return Err(NoMemory);
         }
-        let executed = executed_by(&core);
-        let disk = left_on(log)?;
-        Ok(MpStopped { disk, executed })
-    }
-
-    /// Runs one step that stops after one disk call of its put: its records are lost.
-    pub(crate) fn step_lost(self, input: &MpInput, from: u32) -> Result<MpStopped, NoMemory>
-        requires { FitsInput input.now }
-        ensures { IfOk result (λ left. WhereUpAs self (λ r. IsStopped left r.log)) }
-    {
-        let Running {
-            alloc,
-            mut core,
-            mut log,
-            is_spent,
-        } = self;
-        if is_spent {
-            return Err(NoMemory);
-        }
-        let executed = executed_by(&core);
-        let batch = core.step(input, from)?;
-        put_in_vain(alloc, &mut log, batch.records.as_slice())?;
-        let disk = left_on(log)?;
-        Ok(MpStopped { disk, executed })
+        let ledger = core.into_ledger();
+        Ok(MpStopped { log, ledger })
     }
 }

@@ -99,6 +99,7 @@ impl MpWorld {
     pub(crate) fn no_lines(&mut self) -> MpLines
         ensures none { result ≡ [] }
         ensures holds { WhereHolds self.old (λ v. Holds self.new v) }
+        ensures network { self.new.network ≡ self.old.network }
     {
         let mut lines = mem::replace(&mut self.spare, MpLines::new(self.alloc));
         lines.clear();

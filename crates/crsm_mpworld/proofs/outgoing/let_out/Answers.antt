@@ -1,4 +1,4 @@
-use Rattle.std.proofs.Common.{◌∙◌, ◌++◌, ap, subst, sym, take, length, ◌-◌}
+use Rattle.std.proofs.Common.{arith, ◌∙◌, ◌++◌, ap, subst, sym, take, length, ◌-◌}
 use Rattle.std.proofs.lemmas.List.{length-map}
 use Rattle.std.specs.List.{AllByRecursion}
 use Rattle.crsm_mpreplica.specs.Made.{to_send}
@@ -8,7 +8,7 @@ use Rattle.crsm_mpworld.proofs.outgoing.let_out.Goals as goal
 
 pub returns : goal.returns
 returns c packets bytes x h makes =
-    let kept = c.in_ok-keep.ensures packets bytes h in
+    let kept = c.keep.ensures packets bytes h in
     let long = ap length (c.as_slice.ensures ∙ makes.batch.sends) ∙ length-map x.sends to_send in
     let sends = sends_taken c.args.count c.min.result (length c.as_slice.result.now) x.sends c.args.step.batch.sends _ makes.batch.sends (ap length c.as_slice.ensures) c.min.ensures c.truncate.ensures in
     let sent = c.in_ok-send_all.ensures packets _ kept (take c.args.count x.sends) sends in
@@ -18,4 +18,7 @@ returns c packets bytes x h makes =
     ∙ ap (λ n. take n x.replies) (c.saturating_sub.ensures ∙ ap (λ n. c.args.count - n) long)))
 
 pub send_all-requires : goal.send_all-requires
-send_all-requires c = subst (AllByRecursion FitsSend) (sym c.truncate.ensures) (fit_taken c.min.result _ c.requires)
+send_all-requires c = subst (AllByRecursion FitsSend) (sym c.truncate.ensures) (fit_taken c.min.result _ c.requires.fits)
+
+pub keep-requires : goal.keep-requires
+keep-requires c = let small = c.args.step.small in let below = c.requires.room in omega (arith, small, below)

@@ -1,6 +1,6 @@
 use Rattle.std.proofs.Common.{◌∙◌, ◌++◌, ◌∷◌, [], ap, length}
 use Rattle.crsm_mpspec.specs.declared.line.MpLine.{MpLine}
-use Rattle.crsm_mpspec.specs.World.{kind_of, send_line, send_lines}
+use Rattle.crsm_mpspec.specs.World.{send_line, send_lines}
 use Rattle.crsm_mpworld.proofs.outgoing.send_one.Goals as goal
 
 pub returns : goal.returns

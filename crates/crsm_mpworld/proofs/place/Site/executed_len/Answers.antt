@@ -17,6 +17,6 @@ pub returns-in-Down : goal.returns-in-Down
 unfolding log_of
 returns-in-Down c me n s h = go s (subst (λ p. IsIn p s) c.in-Down.is h.place)
   where
-    go : (s : SiteOnPaper) → IsIn (place.Down c.in-Down.left) s → c.in-Down.left.executed ≡ length (executed (log_of s))
+    go : (s : SiteOnPaper) → IsIn (place.Down c.in-Down.left) s → c.executed_len-in-Down.result ≡ length (executed (log_of s))
     go (SiteOnPaper.Up r) left = absurd left
-    go (SiteOnPaper.Down log) left = left.executed_is
+    go (SiteOnPaper.Down log) left = c.executed_len-in-Down.ensures.value log left.stands

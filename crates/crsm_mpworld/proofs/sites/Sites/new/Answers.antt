@@ -1,4 +1,4 @@
-use Rattle.std.proofs.Common.{◌+◌, ◌∙◌, List, [], replicate, subst, sym}
+use Rattle.std.proofs.Common.{◌+◌, ◌∙◌, List, [], replicate, arith, subst, sym}
 use Rattle.std.proofs.lemmas.List.{length-replicate}
 use Rattle.crsm_mpspec.specs.World.{Site as Place}
 use Rattle.crsm_mpworld.specs.declared.place.Site.{Site}
@@ -13,3 +13,11 @@ loop-me-preserved c =
     let stand = c.loop-me.invariant in
     let stands = site_next c.args.n ss me c.in_ok-new.field-0 (Place.Down []) (sites_length c.args.n 0 ss _ stand ∙ length-replicate me (Place.Down [])) stand c.in_ok-new.ensures in
     subst (λ (xs : List Site). SitesStand c.args.n 0 xs (replicate (me + 1) (Place.Down []))) (sym c.in_ok-push.ensures.items) stands
+
+pub invariant_of-result : goal.invariant_of-result
+invariant_of-result c =
+    let me = c.loop-me.me in
+    let long = sites_length c.args.n 0 c.loop-me.items.items _ c.loop-me.invariant in
+    let most = length-replicate me (Place.Down []) in
+    let end = c.loop-me.auto.me-end in
+    let few = c.requires in record { few = omega (arith, long, most, end, few) }

@@ -1,8 +1,6 @@
-use Rattle.std.proofs.Common.{refl, subst, List}
-use Rattle.crsm_mpspec.specs.World.{Site, lost_step, log_of}
+use Rattle.std.proofs.Common.{refl}
+use Rattle.crsm_mpspec.specs.World.{lost_step, log_of}
 use Rattle.crsm_mpspec.specs.Step.{step}
-use Rattle.crsm_mpworld.specs.Sites.{StandFor}
-use Rattle.crsm_mpworld.proofs.Turns.{get_set, set_twice}
 use Rattle.crsm_mpworld.proofs.sites.Sites.step_whole.Goals as goal
 
 pub returns-clause-leaves : goal.returns-clause-leaves

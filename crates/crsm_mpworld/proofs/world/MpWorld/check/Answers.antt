@@ -7,20 +7,23 @@ use Rattle.crsm_mpworld.specs.Refusing.{Answers}
 use Rattle.crsm_mpworld.proofs.Reasons.{hit, pass, here, not_here}
 use Rattle.crsm_mpworld.proofs.world.MpWorld.check.Goals as goal
 
-pub returns-then-is_not_here : goal.returns-then-is_not_here
+pub returns-then-is_not_here-clause-cause : goal.returns-then-is_not_here-clause-cause
 unfolding cause_of
-returns-then-is_not_here c v h = not_here v (act_of c.args.event.now) (sym c.is_not_here.ensures ∙ c.if-is_not_here.true)
+returns-then-is_not_here-clause-cause c v h = not_here v (act_of c.args.event.now) (sym c.is_not_here.ensures ∙ c.if-is_not_here.true)
 
-pub returns-then-is_full : goal.returns-then-is_full
+pub returns-then-is_full-clause-cause : goal.returns-then-is_full-clause-cause
 unfolding cause_of is_full
-returns-then-is_full c v h =
+returns-then-is_full-clause-cause c v h =
     here v (act_of c.args.event.now) (sym c.is_not_here.ensures ∙ c.if-is_not_here.false)
-    ∙ hit _ (Bad.Full v.bytes) _ (sym (c.is_full.ensures v.packets v.bytes h.network) ∙ c.if-is_full.true)
+    ∙ hit _ (Bad.Full v.bytes) _ (sym (c.is_full.ensures.full v.packets v.bytes h.network) ∙ c.if-is_full.true)
     ∙ ap (λ n. Some (Cause.Met (Bad.Full n))) (sym (c.bytes.ensures v.packets v.bytes h.network))
 
-pub returns : goal.returns
+pub returns-clause-cause : goal.returns-clause-cause
 unfolding is_full
-returns c v h =
+returns-clause-cause c v h =
     let meant = sym c.is_not_here.ensures ∙ c.if-is_not_here.false in
-    let room = sym (c.is_full.ensures v.packets v.bytes h.network) ∙ c.if-is_full.false in
+    let room = sym (c.is_full.ensures.full v.packets v.bytes h.network) ∙ c.if-is_full.false in
     subst (Answers c.check_event.result) (sym (here v (act_of c.args.event.now) meant ∙ pass _ (Bad.Full v.bytes) _ room)) (c.check_event.ensures v h meant)
+
+pub returns-clause-room : goal.returns-clause-room
+returns-clause-room c ok = c.is_full.ensures.room c.if-is_full.false

@@ -1,4 +1,3 @@
-use Rattle.std.specs.Prelude.{slice_get}
 use Rattle.std.proofs.Common.{◌∙◌, ap, sym}
 use Rattle.crsm_mpspec.specs.Moments.{step_at}
 use Rattle.crsm_mpworld.specs.Effects.{ending_of}

@@ -13,4 +13,4 @@ returns c v h reading =
     let ends = ending_of c.args.ending in
     let u = use_up c.args.number v in
     on_begun v (come ends u (slice_get v.packets c.args.number)) _ _ _ _ _
-    (on_as _ _ _ _ _ _ _ (sym (come_used ends v c.args.number)) (c.in_ok-come.ensures u (record { n = h.n; sites = h.sites; network = c.use_up.ensures v.packets v.bytes h.network })))
+    (on_as _ _ _ _ _ _ _ (sym (come_used ends v c.args.number)) (c.in_ok-come.ensures u (record { n = h.n; sites = h.sites; network = c.use_up.ensures.used v.packets v.bytes h.network })))

@@ -1,7 +1,7 @@
-use Rattle.std.proofs.Common.{◌≡◌, sym, subst, None}
+use Rattle.std.proofs.Common.{◌≡◌, subst, None}
 use Rattle.crsm_schedule.specs.declared.Event.{Event}
 use Rattle.crsm_spec.specs.Possible.{first_bad}
-use Rattle.crsm_mpspec.specs.Possible.{causes_of, possible, is_not_here}
+use Rattle.crsm_mpspec.specs.Possible.{causes_of}
 use Rattle.crsm_mpspec.specs.Moments.{act, moments_of}
 use Rattle.crsm_mpworld.specs.Doing.{act_of}
 use Rattle.crsm_mpworld.specs.Effects.{ending_of}

@@ -3,7 +3,7 @@ use Rattle.std.specs.Prelude.{slice_get}
 use Rattle.crsm_mpspec.specs.World.{Site, World}
 use Rattle.crsm_mpspec.specs.Moments.{start_at}
 use Rattle.crsm_mpworld.specs.World.{MpWorldStands, Holds, Leads}
-use Rattle.crsm_mpworld.proofs.First.{part, part_lines, no_part, no_lines, all_parts, all_lines, next_down, part_next, lines_more}
+use Rattle.crsm_mpworld.proofs.First.{part, part_lines, part_open, no_part, no_lines, all_parts, all_lines, next_down, part_next, lines_more}
 use Rattle.crsm_mpworld.proofs.world.MpWorld.new.Goals as goal
 
 pub loop-k-init : goal.loop-k-init
@@ -33,3 +33,6 @@ pub returns-clause-lines : goal.returns-clause-lines
 returns-clause-lines c =
     let e : c.loop-k.k ≡ c.args.n = let a = c.loop-k-test.false in let b = c.loop-k.auto.k-end in omega arith in
     c.loop-k.invariant.told ∙ ap (part_lines c.args.n) e ∙ all_lines c.args.n
+
+pub start-requires : goal.start-requires
+start-requires c = part_open c.args.n c.loop-k.k c.loop-k.world c.loop-k-test.true c.requires.most c.loop-k.invariant.holds

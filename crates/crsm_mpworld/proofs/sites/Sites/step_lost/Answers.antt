@@ -1,9 +1,0 @@
-use Rattle.crsm_mpspec.specs.World.{Site as Place}
-use Rattle.crsm_mpworld.proofs.Places.{site_at, site_set}
-use Rattle.crsm_mpworld.proofs.sites.Sites.step_lost.Goals as goal
-
-pub returns : goal.returns
-returns c n places r h e =
-    let ss = c.args.self.now.items.items in
-    let s = site_at n ss places c.args.k c.index_mut.result.now (Place.Up r) h c.in_ok-check.ensures c.index_mut.ensures.value e in
-    site_set n ss places c.args.k _ _ h (c.in_ok-step_lost.ensures c.args.k n r s)
