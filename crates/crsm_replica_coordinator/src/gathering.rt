@@ -2,6 +2,7 @@
 
 ghost use Rattle.std.specs.Prelude.{◌≡◌, ◌<◌, ℕ, List, Option, true};
 ghost use Rattle.std.specs.Option.{IsSomeAnd};
+ghost use Rattle.crsm_base.specs.Spelling.{FitsOption, FitsStamp};
 ghost use Rattle.crsm_spec.specs.Collect.{cursor, is_whole};
 ghost use Rattle.crsm_spec.specs.Lists.{has};
 ghost use Rattle.crsm_spec.specs.Log.{Log, decision};
@@ -35,7 +36,8 @@ impl Coordinator {
     /// Returns the stamp of the last entry received from replica `k` in the collection, or `None`.
     pub fn cursor(&self, k: u32) -> Option<Stamp>
         requires { k < 15 }
-        ensures { (me n : ℕ) (log : Log) (ms : List ℕ) (pages : List LogPage) → CollectsOver self.now me n log ms pages → result ≡ cursor pages k }
+        ensures value { (me n : ℕ) (log : Log) (ms : List ℕ) (pages : List LogPage) → CollectsOver self.now me n log ms pages → result ≡ cursor pages k }
+        ensures fits { FitsOption FitsStamp result }
     {
         match self {
             Coordinator::Collecting(collect) => collect.cursor(k),

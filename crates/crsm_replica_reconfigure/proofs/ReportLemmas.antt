@@ -1,14 +1,14 @@
 -- The outcomes of pages of frozen logs.
 use Rattle.std.proofs.Common.{◌≡◌, ℕ, zero, suc, ◌+◌, ◌<◌, ◌≤◌, List, [], ◌∷◌, ◌++◌, refl, sym, ◌∙◌, ap, subst, arith, Bool, true, false, length, take, get_or}
 use Rattle.std.specs.Prelude.{◌≢◌, ◌==◌, ◌||◌, ◌/◌, not, nat_le, fold, filter, Option, Some, None, count_by, unwrap_or}
-use Rattle.std.specs.List.{AllByRecursion, range_with_len}
+use Rattle.std.specs.List.{range_with_len}
 use Rattle.std.proofs.lemmas.Bool.{false≢true, eqb-true}
 use Rattle.std.proofs.lemmas.Bool.Decides.{nat_tests}
 use Rattle.std.proofs.lemmas.List.{take_more, take_all}
 use Rattle.std.proofs.lemmas.List.Sums.{count_by-le-length}
 use Rattle.std.proofs.lemmas.Grind.{fold-append}
 use Rattle.crsm_base.specs.Members.{RisesWithin, IsMembers}
-use Rattle.crsm_base.specs.Spelling.{FitsOption, FitsStamp, FitsEntry, FitsDecision}
+use Rattle.crsm_base.specs.Spelling.{FitsOption, FitsDecision}
 use Rattle.crsm_spec.specs.Types.{Stamp, Decision, Control, Line}
 use Rattle.crsm_spec.specs.Choice.{when◌then◌otherwise◌}
 use Rattle.crsm_spec.specs.Lists.{has, numbers_below}
@@ -21,17 +21,12 @@ use Rattle.crsm_spec.specs.Draft.{Draft, keep, noting, send_control}
 use Rattle.crsm_spec.specs.Coordinate.{instance, begin_proposing, ask}
 use Rattle.crsm_spec.specs.Controls.{on_control, on_suspend_ok, if_spec}
 use Rattle.crsm_spec.specs.Step.{ask_page, missing, send_collect}
-use Rattle.crsm_suspend.specs.Collecting.{CanSend, FitsGot, is_asked, got_decided, got_whole, got_more, got_page, page_in, got_of, pages_after}
+use Rattle.crsm_suspend.specs.Collecting.{FitsGot, is_asked, got_decided, got_whole, got_more, got_page, page_in, got_of, pages_after}
 use Rattle.crsm_suspend.specs.Coordinating.{on_got, PagesAreTaken}
-use Rattle.crsm_suspend.specs.declared.collect.Collect.{Collect}
 use Rattle.crsm_suspend.specs.declared.got.PageOutcome.{PageOutcome}
 use Rattle.crsm_suspend.proofs.CollectLemmas.{more_from}
-use Rattle.crsm_fact_log.proofs.Lists.{all_at}
-use Rattle.crsm_fact_log.specs.Pages.{FitsPage, FitPages}
-use Rattle.crsm_fact_log.proofs.DecisionsFit.{cursor_fits}
 use Rattle.crsm_fact_log.proofs.LogsFit.{decision_fits, no_fits}
-use Rattle.crsm_replica_coordinator.specs.Coordinator.{CoordinatorStands, IsGathering, epoch_of, next_in, named_in}
-use Rattle.crsm_replica_coordinator.specs.declared.coordinator.Coordinator.{Coordinator as InMemory}
+use Rattle.crsm_replica_coordinator.specs.Coordinator.{epoch_of, next_in, named_in}
 use Rattle.crsm_replica_coordinator.proofs.Counting.{none_counted, push_counted}
 use Rattle.crsm_replica.specs.Sound.{IsSound}
 use Rattle.crsm_replica_reconfigure.specs.Rules.{CanPropose}
@@ -48,24 +43,6 @@ collecting_as (Coordinator.Collecting ms pages) h = (ms, pages, refl)
 collecting_as (Coordinator.Preparing b own answers) h = absurd (false≢true h)
 collecting_as (Coordinator.Proposing b own value acceptors) h = absurd (false≢true h)
 collecting_as (Coordinator.Preempted own seen) h = absurd (false≢true h)
-
-pub gathering_in : (coordinator : InMemory) (me n : ℕ) (known : Option Decision) (ms : List ℕ) (pages : List LogPage) → CoordinatorStands coordinator me n known (Coordinator.Collecting ms pages) →
-    (c : Collect) × IsGathering c me n known ms pages
-unfolding CoordinatorStands
-gathering_in InMemory.Idle me n known ms pages s = absurd s
-gathering_in (InMemory.Collecting c) me n known ms pages s = (c, s)
-gathering_in (InMemory.Proposing p) me n known ms pages s = absurd s
-gathering_in (InMemory.Preempted retry) me n known ms pages s = absurd s
-
-page_fit : (x : ℕ) (p : LogPage) → CanSend x p → FitsPage x p
-page_fit x p h = record { executed = h.low; entries = λ z a. (all_at FitsEntry p.entries z h.fit a, all_at (λ e. e.epoch ≡ x) p.entries z h.of_epoch a) }
-
-pages_fit : (x : ℕ) (pages : List LogPage) → AllByRecursion (CanSend x) pages → FitPages x pages
-pages_fit x pages h p a = page_fit x p (all_at (CanSend x) pages p h a)
-
--- the next request has an encoding
-pub asked_fits : (x : Draft) (me n : ℕ) (c : Collect) (ms : List ℕ) (pages : List LogPage) (k : ℕ) → IsGathering c me n (decision x.replica.log) ms pages → FitsOption FitsStamp (cursor pages k)
-asked_fits x me n c ms pages k g = cursor_fits (known x.replica.log) pages k (pages_fit (known x.replica.log) pages (g.collects x.replica.log refl).told)
 
 -- ---- a page is asked for
 

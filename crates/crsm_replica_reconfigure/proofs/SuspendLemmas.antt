@@ -1,17 +1,13 @@
 -- The suspension of the known epoch.
-use Rattle.std.proofs.Common.{◌≡◌, ℕ, ◌<◌, ◌∙◌, subst, arith, true, false, length}
-use Rattle.std.specs.Prelude.{◌^◌, Option}
+use Rattle.std.proofs.Common.{◌≡◌, ℕ, ◌<◌, ◌∙◌, arith, true, false}
+use Rattle.std.specs.Prelude.{Option}
 use Rattle.std.proofs.lemmas.Bool.Decides.{nat_tests}
-use Rattle.crsm_base.specs.Messages.{FitsControl}
-use Rattle.crsm_base.specs.Spelling.{FitsOption, FitsStamp}
 use Rattle.crsm_spec.specs.Types.{Stamp, Rec}
-use Rattle.crsm_spec.specs.Log.{known, suspended, executed}
+use Rattle.crsm_spec.specs.Log.{known, suspended}
 use Rattle.crsm_spec.specs.Draft.{Draft, keep, send_control, send_decision, send_retrieve}
 use Rattle.crsm_spec.specs.Collect.{suspend_ok}
 use Rattle.crsm_spec.specs.Coordinate.{suspend_once}
 use Rattle.crsm_spec.specs.Controls.{on_suspend}
-use Rattle.crsm_replica.specs.Sound.{IsSound}
-use Rattle.crsm_fact_log.proofs.LogsFit.{known_small, last_fits, asked_page}
 use Rattle.crsm_replica_reconfigure.proofs.DraftLemmas.{when_yes, when_no}
 
 pub suspend_old : (k e : ℕ) (after : Option Stamp) (x : Draft) → e < known x.replica.log → on_suspend k e after x ≡ send_decision k x
@@ -33,8 +29,3 @@ once_done x h = when_yes _ _ _ h
 pub once_now : (x : Draft) → suspended x.replica.log ≡ false → suspend_once x ≡ keep (Rec.Suspend (known x.replica.log)) x
 unfolding suspend_once
 once_now x h = when_no _ _ _ h
-
-pub frozen_spelt : (x : Draft) (after : Option Stamp) (done : ℕ) → IsSound x → FitsOption FitsStamp after → done ≡ length (executed x.replica.log) → done < 2 ^ 64 → FitsControl (suspend_ok x.replica.log after)
-unfolding suspend_ok
-frozen_spelt x after done s f e l =
-    (known_small x.replica.log s.spelt, subst (λ m. m < 2 ^ 64) e l, last_fits x.replica.log s.spelt, f, asked_page x.replica.me x.replica.n x.replica.log after s.kept s.spelt)

@@ -7,6 +7,7 @@ ghost use Rattle.crsm_spec.specs.Replica.{Coordinator as CoordinatorOnPaper};
 ghost use Rattle.crsm_spec.specs.Draft.{Draft, noting};
 ghost use Rattle.crsm_spec.specs.Controls as controls;
 ghost use Rattle.crsm_spec.specs.Step as rules;
+ghost use Rattle.crsm_suspend.specs.Collecting.{FitsGot};
 ghost use Rattle.crsm_suspend.specs.Coordinating.{on_got};
 ghost use Rattle.crsm_replica.specs.Replica.{ReplicaStands};
 ghost use Rattle.crsm_replica_reconfigure.specs.Reports.{IsReport, CanGoOn, ask_missing, is_collecting};
@@ -14,11 +15,10 @@ ghost use Rattle.crsm_replica_reconfigure.specs.Rules.{FollowsWhere};
 ghost use Rattle.crsm_replica_reconfigure.specs.Stages.{WhereCollecting, WhereGathering};
 
 use crate::beginning::begin_proposing;
-use crsm_base::{Ballot, Control, NoMemory, never};
+use crsm_base::{Ballot, Control, NoMemory};
 use crsm_replica::{ReplicaState, states_are_sound};
 use crsm_replica_coordinator::{Coordinator, Stage};
 use crsm_suspend::{Collect, PageOutcome, got_is_by_the_rules};
-use crsm_wire::is_decision_spelt;
 
 /// The ballot at the beginning of an instance, below each that asks for promises.
 pub(crate) const NO_BALLOT: Ballot = Ballot { round: 0, by: 0 };
@@ -55,7 +55,8 @@ pub(crate) fn go_on(
     collect: Collect,
     got: PageOutcome,
 ) -> Result<(), NoMemory>
-    requires { k < 15 }
+    requires below { k < 15 }
+    requires spelt { FitsGot got }
     ensures { IfOk result (λ _. WhereGathering state.old collect (λ x ms pages. CanGoOn k pages got x → ReplicaStands state.new (on_got ms pages got (noting (CoordinatorOnPaper.Collecting ms pages) x)))) }
 {
     match got {
@@ -73,10 +74,6 @@ pub(crate) fn go_on(
             Ok(())
         }
         PageOutcome::Complete(decision) => {
-            // The pages had encodings, and their limits are tested.
-            if !is_decision_spelt(&decision) {
-                return Err(never());
-            }
             begin_proposing(state, decision, NO_BALLOT)?;
             Ok(())
         }
@@ -121,7 +118,7 @@ fn ask_page(state: &mut ReplicaState, k: u32) -> Result<(), NoMemory>
     let epoch = state.known();
     let after = state.coordinator().cursor(k);
     let control = Control::Suspend { epoch, after };
-    state.send_known(k, &control)?;
+    state.send_control(k, &control)?;
     Ok(())
 }
 

@@ -65,9 +65,7 @@ fn send_frozen(state: &mut ReplicaState, k: u32, after: Option<Stamp>) -> Result
     requires after { FitsOption FitsStamp after }
     ensures { Makes (λ x. send_control (suspend_ok x.replica.log after) x k) state.old result state.new }
 {
-    states_are_sound();
-    let _done = state.executed_len();
     let control = page_of(state.alloc(), state.ledger(), after)?;
-    state.send_known(k, &control)?;
+    state.send_control(k, &control)?;
     Ok(())
 }

@@ -26,7 +26,7 @@ use Rattle.crsm_suspend.proofs.Propositions.{all_prop, entries_prop}
 
 -- ---- the decision
 
-pages_fit : (epoch : ℕ) (pages : List LogPage) → AllByRecursion (CanSend epoch) pages → FitPages epoch pages
+pub pages_fit : (epoch : ℕ) (pages : List LogPage) → AllByRecursion (CanSend epoch) pages → FitPages epoch pages
 pages_fit epoch pages told p m =
     let t = all_at (CanSend epoch) pages p told m in
     record { executed = t.low; entries = λ z n. (all_at FitsEntry p.entries z t.fit n, all_at (λ e. e.epoch ≡ epoch) p.entries z t.of_epoch n) }

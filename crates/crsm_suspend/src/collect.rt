@@ -2,6 +2,7 @@
 
 ghost use Rattle.std.specs.Prelude.{◌≡◌, ◌<◌, ◌≤◌, [], ◌∷◌, ◌++◌, List, Option, IfOk, OnOk, OnErr};
 ghost use Rattle.crsm_base.specs.Messages.{FitsControl};
+ghost use Rattle.crsm_base.specs.Spelling.{FitsOption, FitsStamp};
 ghost use Rattle.crsm_base.specs.declared.Rec.{Rec};
 ghost use Rattle.crsm_base.specs.declared.Stamp.{Stamp};
 ghost use Rattle.crsm_spec.specs.Collect.{cursor, is_whole, own_page};
@@ -84,7 +85,8 @@ impl Collect {
     /// if no entry was received.
     pub fn cursor(&self, k: u32) -> Option<Stamp>
         requires { k < 15 }
-        ensures { WhereCollecting self.now (λ log spec named members pages. result ≡ cursor pages k) }
+        ensures value { WhereCollecting self.now (λ log spec named members pages. result ≡ cursor pages k) }
+        ensures fits { FitsOption FitsStamp result }
     {
         self.inner.cursor(k)
     }

@@ -3,6 +3,7 @@ use Rattle.crsm_spec.specs.Types.{Line}
 use Rattle.crsm_spec.specs.Log.{decision, known, no_ballot}
 use Rattle.crsm_spec.specs.Replica.{Coordinator}
 use Rattle.crsm_spec.specs.Draft.{noting}
+use Rattle.crsm_suspend.specs.Collecting.{FitsGot}
 use Rattle.crsm_suspend.specs.Coordinating.{on_got}
 use Rattle.crsm_replica.specs.Replica.{ReplicaStands}
 use Rattle.crsm_replica_reconfigure.specs.Reports.{AsksOn}
@@ -32,6 +33,9 @@ returns-in-Kept c = λ x ms pages s g can.
     let set = c.set_coordinator-in-Kept.ensures x (Coordinator.Collecting ms pages) s stands in
     subst (λ r. ReplicaStands c.set_coordinator-in-Kept.new.self (on_got ms pages r (noting (Coordinator.Collecting ms pages) x))) (sym c.in-Kept.is)
     (subst (λ y. ReplicaStands c.set_coordinator-in-Kept.new.self y) (does_wait ms pages x) set)
+
+pub begin_proposing-requires : goal.begin_proposing-requires
+begin_proposing-requires c = subst FitsGot c.in-Complete.is c.requires.spelt
 
 pub returns-in_ok-begin_proposing-in-Complete : goal.returns-in_ok-begin_proposing-in-Complete
 unfolding no_ballot
