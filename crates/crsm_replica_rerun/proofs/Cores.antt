@@ -12,7 +12,7 @@ use Rattle.crsm_spec.specs.Step.{Input, step}
 use Rattle.crsm_core.specs.declared.replica.Core.{Core}
 use Rattle.crsm_core.specs.Core.{Answers, CoreStands}
 use Rattle.crsm_replica_output.specs.declared.batch.Batch.{Batch}
-use Rattle.crsm_replica_rerun.specs.Stages.{TakesTurn}
+use Rattle.crsm_replica_rerun.specs.Stages.{IsOfOne, IsSpelt, TakesTurn}
 
 -- bytes that are a datagram are stepped on
 turn_came : (r : Replica) (from reading : ℕ) (bytes : List ℕ) (d : Datagram) → datagram_of bytes ≡ Some d → turn r (Turn.In from bytes, reading) ≡ step r (Input.Came from d) reading
@@ -36,3 +36,9 @@ pub as_turn : (result : Result Batch NoMemory) (old new : Core) (from reading : 
 as_turn (Ok batch) old new from reading bytes d is f = λ r stands.
     subst (Steps new batch) (sym (turn_came r from reading bytes d is)) (f r stands)
 as_turn (Err e) old new from reading bytes d is f = f
+
+-- what a turn of some replica has made has an encoding, and the core stands for some replica again
+pub some_turn : (batch : Batch) (old new : Core) (t : Turn × ℕ) → ((r : Replica) → CoreStands old r → Answers batch (turn r t) × CoreStands new (turn r t).replica)
+    → IsOfOne old → IsSpelt batch × IsOfOne new
+some_turn batch old new t f o =
+    let s = f o.replica o.stands in ((s.0.records, s.0.sends), record { replica = (turn o.replica t).replica; stands = s.1 })

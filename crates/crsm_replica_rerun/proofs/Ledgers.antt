@@ -15,9 +15,9 @@ use Rattle.crsm_text_sheet.specs.declared.line.SheetLine.{SheetLine}
 use Rattle.crsm_replica_rerun.specs.declared.rerun.Rerun.{Rerun}
 use Rattle.crsm_replica_rerun.specs.declared.stage.SheetStage.{SheetStage}
 use Rattle.crsm_replica_rerun.specs.declared.stage.SheetStage.TheVariants as stages
-use Rattle.crsm_replica_rerun.specs.Replaying.{RerunStands, SaysLog}
+use Rattle.crsm_replica_rerun.specs.Replaying.{IsOfSome, RerunStands, SaysLog}
 use Rattle.crsm_replica_rerun.specs.Sheets.{replica_of}
-use Rattle.crsm_replica_rerun.specs.Stages.{StageStands}
+use Rattle.crsm_replica_rerun.specs.Stages.{IsOfOne, StageStands}
 
 -- each record of a core's log fits
 core_fits : (core : Core) (r : Replica) → CoreStands core r → EachFits r.me r.n r.log
@@ -39,3 +39,7 @@ says me n first old lines steps s core is ledger stands =
     let runs = subst (λ (x : SheetStage). StageStands me n x lines steps) is s.stage in
     let r : Replica = replica_of runs.sheet in
     record { sheet = runs.sheet; are = runs.are; says = stands r runs.stands; fit = all_fit r.me r.n r.log (core_fits core.value r runs.stands); spelt = core_spelt core.value r runs.stands }
+
+-- a core that stands for some replica has the ledger of some log
+pub of_some : (core : Core) (ledger : Ledger) → ((r : Replica) → CoreStands core r → LedgerStands r.me r.n ledger r.log) → IsOfOne core → IsOfSome ledger
+of_some core ledger stands o = record { me = o.replica.me; n = o.replica.n; log = o.replica.log; says = stands o.replica o.stands }

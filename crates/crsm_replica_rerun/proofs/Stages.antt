@@ -100,11 +100,13 @@ pub refused_early : (me n : ℕ) (stage : SheetStage) (lines : List SheetLine) (
     → StageStands me n stage lines steps → ((core : Box Core) → stage ≡ stages.Running core → ⊥) → BeginASheet (lines ++ turn_line t ∷ []) → ⊥
 refused_early me n (stages.Finding bodies) lines steps t s not = too_early me n bodies lines steps t s
 refused_early me n (stages.Running core) lines steps t s not = absurd (not core refl)
+refused_early me n stages.Spent lines steps t s not = absurd s
 
 pub refused_late : (me n : ℕ) (stage : SheetStage) (lines : List SheetLine) (steps : List Draft) (l : SheetLine) → IsNoTurn l
     → StageStands me n stage lines steps → ((bodies : List (List ℕ)) → stage ≡ stages.Finding bodies → ⊥) → BeginASheet (lines ++ l ∷ []) → ⊥
 refused_late me n (stages.Finding bodies) lines steps l none s not = absurd (not bodies refl)
 refused_late me n (stages.Running core) lines steps l none s not = too_late me n core lines steps l none s
+refused_late me n stages.Spent lines steps l none s not = absurd s
 
 -- the log is bad, or memory ran out
 pub refused_log : (me n : ℕ) (bodies : List (List ℕ)) (lines : List SheetLine) (steps : List Draft) (why : RerunError)
@@ -124,6 +126,7 @@ no_sheet me n stage bodies lines steps is s =
 leads_of : (me n : ℕ) (stage : SheetStage) (lines : List SheetLine) (steps : List Draft) → StageStands me n stage lines steps → LeadTo me n lines steps
 leads_of me n (stages.Finding bodies) lines steps s = inl (record { bodies = bodies; is = s.0 }, s.1)
 leads_of me n (stages.Running core) lines steps s = inr (record { sheet = s.sheet; are = s.are })
+leads_of me n stages.Spent lines steps s = absurd s
 
 module _ (me n first : ℕ) (old : Rerun) (lines : List SheetLine) (steps : List Draft) (s : RerunStands me n first old lines steps) where
   inside : StageStands old.me old.n old.stage lines steps

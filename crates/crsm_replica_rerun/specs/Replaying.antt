@@ -3,6 +3,7 @@ use Rattle.std.specs.Prelude.{◌≡◌, ℕ, ◌+◌, List, [], ◌∷◌, ◌+
 use Rattle.crsm_base.specs.declared.Line.{Line}
 use Rattle.crsm_fact_log.specs.Logs.{AllFit, AreSpelt}
 use Rattle.crsm_spec.specs.Draft.{Draft}
+use Rattle.crsm_spec.specs.Log.{Log}
 use Rattle.crsm_spec.specs.Node.{Turn}
 use Rattle.crsm_ledger.specs.declared.ledger.Ledger.{Ledger}
 use Rattle.crsm_ledger.specs.Ledger.{LedgerStands}
@@ -12,7 +13,7 @@ use Rattle.crsm_text_sheet.specs.declared.line.SheetLine.{SheetLine}
 use Rattle.crsm_text_sheet.specs.Sheets.{sheet_of}
 use Rattle.crsm_replica_rerun.specs.declared.rerun.Rerun.{Rerun}
 use Rattle.crsm_replica_rerun.specs.Sheets.{IsSheet, LeadTo, replica_of, steps_of}
-use Rattle.crsm_replica_rerun.specs.Stages.{AnswersAll, IsOpen, IsOpenBehind, StageStands}
+use Rattle.crsm_replica_rerun.specs.Stages.{AnswersAll, IsOpen, IsOpenBehind, Leads, StageStands}
 use Rattle.crsm_replica_rerun.specs.Texts.{IsNodeText, ending_of, shown_text}
 
 -- The replay is that of a sheet of replica me, in a cluster that began with n. These lines of the sheet were read, the
@@ -42,6 +43,10 @@ HasOpened rerun = IsOpen rerun.stage
 abbrev pub OpenedBehind : SheetLine → Rerun → Type 0
 OpenedBehind line rerun = IsOpenBehind line rerun.stage
 
+-- the line may stand behind those that were read, and leads from the old replay to the new one
+abbrev pub LeadsTo : Rerun → SheetLine → Rerun → Type 0
+LeadsTo old line new = Leads old.stage line new.stage
+
 -- The line leads to these further steps, which the batch answers.
 pub record Advances (me n first : ℕ) (new : Rerun) (lines : List SheetLine) (steps : List Draft) (line : SheetLine) (batch : Batch) : Type 0 where
   pub more : List Draft
@@ -70,6 +75,13 @@ pub record Ends (me n first : ℕ) (lines : List SheetLine) (steps : List Draft)
   pub text : IsNodeText me n first lines (shown_text first lines steps ++ line_text 0 line)
 
 -- ---- the log
+
+-- the ledger is the state of the log of some replica
+pub record IsOfSome (ledger : Ledger) : Type 0 where
+  pub me : ℕ
+  pub n : ℕ
+  pub log : Log
+  pub says : LedgerStands me n ledger log
 
 -- The lines are a sheet, these are its steps, and the ledger is the state of its log, each record of which fits and has
 -- an encoding.

@@ -10,9 +10,9 @@ use Rattle.crsm_spec.specs.Step.{boot}
 use Rattle.crsm_spec.specs.Node.{Turn, turn}
 use Rattle.crsm_replica_output.specs.declared.batch.Batch.{Batch}
 use Rattle.crsm_core.specs.declared.replica.Core.{Core}
-use Rattle.crsm_core.specs.Core.{Answers, CoreStands, FitsSent, IsSpent}
+use Rattle.crsm_core.specs.Core.{Answers, CoreStands, FitsSent}
 use Rattle.crsm_text_sheet.specs.declared.line.SheetLine.{SheetLine}
-use Rattle.crsm_text_sheet.specs.declared.line.SheetLine.TheVariants.{Entry, Open}
+use Rattle.crsm_text_sheet.specs.declared.line.SheetLine.TheVariants.{Entry, In, Open, Suspect, Tick}
 use Rattle.crsm_text_sheet.specs.Sheets.{entry_line}
 use Rattle.crsm_replica_rerun.specs.declared.error.RerunError.{RerunError}
 use Rattle.crsm_replica_rerun.specs.declared.error.RerunError.TheVariants as errors
@@ -26,10 +26,6 @@ use Rattle.crsm_replica_rerun.specs.Sheets.{BeginASheet, HoldBadLog, IsSheet, re
 pub record IsOfOne (core : Core) : Type 0 where
   pub replica : Replica
   pub stands : CoreStands core replica
-
--- the core is spent, or stands for some replica
-abbrev pub IsUsable : Core → Type 0
-IsUsable core = (IsSpent core → ⊥) → IsOfOne core
 
 -- the core has booted on this log, and the batch is what the boot made
 pub record BootsOn (me n : ℕ) (log : Log) (core : Core) (batch : Batch) : Type 0 where
@@ -84,16 +80,31 @@ pub record Runs (me n : ℕ) (core : Core) (lines : List SheetLine) (steps : Lis
 abbrev pub StageStands : (me n : ℕ) → SheetStage → List SheetLine → List Draft → Type 0
 StageStands me n (stages.Finding bodies) lines steps = (lines ≡ map entry_line bodies) × (steps ≡ [])
 StageStands me n (stages.Running core) lines steps = Runs me n core.value lines steps
+StageStands me n stages.Spent lines steps = ⊥
 
--- a core that runs is usable
+-- a core that runs stands for some replica
 abbrev pub IsSound : SheetStage → Type 0
-IsSound (stages.Finding bodies) = Unit {0}
-IsSound (stages.Running core) = IsUsable core.value
+IsSound (stages.Running core) = IsOfOne core.value
+IsSound _ = Unit {0}
 
--- the log was opened
+-- the log was opened, and memory did not run out since
 abbrev pub IsOpen : SheetStage → Type 0
-IsOpen (stages.Finding bodies) = ⊥
 IsOpen (stages.Running core) = Unit {0}
+IsOpen _ = ⊥
+
+-- a line that is no body leads there
+abbrev pub LeadsOn : SheetStage → SheetLine → Type 0
+LeadsOn (stages.Finding bodies) Open = Unit {0}
+LeadsOn (stages.Running core) (In reading address bytes) = Unit {0}
+LeadsOn (stages.Running core) (Tick reading) = Unit {0}
+LeadsOn (stages.Running core) (Suspect reading members) = Unit {0}
+LeadsOn _ _ = ⊥
+
+-- the line may stand where the sheet is at the old stage, and leads it to the new one
+abbrev pub Leads : SheetStage → SheetLine → SheetStage → Type 0
+Leads (stages.Finding bodies) (Entry bytes) (stages.Finding more) = Unit {0}
+Leads old line (stages.Running core) = LeadsOn old line
+Leads _ _ _ = ⊥
 
 -- it is open behind each line but a body
 abbrev pub IsOpenBehind : SheetLine → SheetStage → Type 0

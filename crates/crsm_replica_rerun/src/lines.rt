@@ -1,11 +1,11 @@
 //! The replay of a sheet line by line.
 
-ghost use Rattle.std.specs.Prelude.{◌≡◌, ◌≢◌, ◌<◌, ◌≤◌, ◌+◌, ◌-◌, ◌^◌, ℕ, [], List, IfOk, IfErr, OnOk, MatchOption};
+ghost use Rattle.std.specs.Prelude.{◌≡◌, ◌≢◌, ◌<◌, ◌≤◌, ◌+◌, ◌-◌, ◌^◌, ℕ, [], false, IsTrue, List, IfOk, IfErr, OnOk, MatchOption};
 ghost use Rattle.std.specs.List.{AllByRecursion};
 ghost use Rattle.crsm_base.specs.Records.{FitsRec};
 ghost use Rattle.crsm_core.specs.Core.{FitsSent};
 ghost use Rattle.crsm_replica_rerun.specs.Stages.{IsRefusal};
-ghost use Rattle.crsm_replica_rerun.specs.Replaying.{AddsText, Advances, Ends, HasOpened, IsNoSheet, OpenedBehind, RerunStands, SaysLog, WhereStands, next_of};
+ghost use Rattle.crsm_replica_rerun.specs.Replaying.{AddsText, Advances, Ends, HasOpened, IsNoSheet, IsOfSome, LeadsTo, OpenedBehind, RerunStands, SaysLog, WhereStands, next_of};
 
 use crate::ending::ending;
 use crate::error::RerunError;
@@ -52,6 +52,7 @@ impl Rerun {
         ensures advances { WhereStands self.old (λ me n first lines steps. IfOk result (Advances me n first self.new lines steps line.now)) }
         ensures refused { WhereStands self.old (λ me n first lines steps. IfErr result (IsRefusal me n lines line.now)) }
         ensures opened { OnOk result (OpenedBehind line.now self.new) }
+        ensures leads { OnOk result (LeadsTo self.old line.now self.new) }
         ensures records { IfOk result (λ batch. AllByRecursion FitsRec batch.records) }
         ensures spelt { IfOk result (λ batch. AllByRecursion FitsSent batch.sends) }
         ensures next { OnOk result (next_of self.new ≡ next_of self.old + 1) }
@@ -81,19 +82,30 @@ impl Rerun {
         ensures { WhereStands self.now (λ me n first lines steps. MatchOption result (IsNoSheet lines) (Ends me n first lines steps)) }
     {
         match &self.stage {
-            SheetStage::Finding { .. } => None,
             SheetStage::Running { core } => Some(ending(self.me, core.ledger())),
+            SheetStage::Finding { .. } => None,
+            SheetStage::Spent => None,
         }
+    }
+
+    /// Returns whether the replica has booted.
+    pub fn has_opened(&self) -> bool
+        ensures yes { IsTrue result → HasOpened self.now }
+        ensures no { result ≡ false → HasOpened self.now → ⊥ }
+    {
+        matches!(self.stage, SheetStage::Running { .. })
     }
 
     /// Returns the ledger of the replica, which has booted.
     pub fn ledger(&self) -> &Ledger
         requires { HasOpened self.now }
-        ensures { WhereStands self.now (λ me n first lines steps. SaysLog me n lines steps result.now) }
+        ensures says { WhereStands self.now (λ me n first lines steps. SaysLog me n lines steps result.now) }
+        ensures some { ∥ IsOfSome result.now ∥₁ }
     {
         match &self.stage {
-            SheetStage::Finding { .. } => unreachable!(),
             SheetStage::Running { core } => core.ledger(),
+            SheetStage::Finding { .. } => unreachable!(),
+            SheetStage::Spent => unreachable!(),
         }
     }
 }

@@ -2,21 +2,25 @@
 
 ghost use Rattle.std.specs.Prelude.{◌≡◌, ◌<◌, ◌≤◌, ℕ, IfOk, OnOk};
 ghost use Rattle.crsm_text_sheet.specs.declared.line.SheetLine.{SheetLine};
-ghost use Rattle.crsm_replica_rerun.specs.Stages.{IsOpen, IsOpenBehind, IsSound, IsSpelt, TakesLine};
+ghost use Rattle.crsm_replica_rerun.specs.Stages.{IsOpen, IsOpenBehind, IsSound, IsSpelt, Leads, TakesLine};
 
 use crate::boot::boot;
 use crate::error::RerunError;
 use crate::step::{come, nothing, suspect, tick};
-use crsm_base::{Bodies, Members};
+use crsm_base::{Bodies, Members, NoMemory};
 use crsm_core::{Batch, Core};
 use crsm_text_sheet::SheetLine;
 use std::alloc::Global;
 
-/// The stage of a replay: bodies of the log before `open`, or the running replica after it.
+/// The stage of a replay.
 #[derive(Drop)]
 pub(crate) enum SheetStage {
+    /// Bodies of the log, before `open`.
     Finding { bodies: Bodies },
+    /// The running replica, after `open`.
     Running { core: Box<Core> },
+    /// Memory ran out in a step, of which half was made.
+    Spent,
 }
 
 impl SheetStage {
@@ -33,6 +37,7 @@ impl SheetStage {
         requires few { n ≤ 15 }
         ensures takes { TakesLine me n self.old line.now result self.new }
         ensures opened { OnOk result (IsOpenBehind line.now self.new) }
+        ensures leads { OnOk result (Leads self.old line.now self.new) }
         ensures sound { IsSound self.old → IsSound self.new }
         ensures spelt { IsSound self.old → IfOk result IsSpelt }
     {
@@ -52,6 +57,7 @@ impl SheetStage {
     /// Adds a body of the log.
     fn find(&mut self, alloc: Global, body: &[u8]) -> Result<Batch, RerunError>
         ensures takes { (me n : ℕ) → TakesLine me n self.old (SheetLine.Entry body.now) result self.new }
+        ensures leads { OnOk result (Leads self.old (SheetLine.Entry body.now) self.new) }
         ensures sound { IsSound self.old → IsSound self.new }
         ensures spelt { IfOk result IsSpelt }
     {
@@ -68,6 +74,7 @@ impl SheetStage {
         requires some { 1 ≤ n }
         requires few { n ≤ 15 }
         ensures takes { TakesLine me n self.old SheetLine.Open result self.new }
+        ensures leads { OnOk result (Leads self.old SheetLine.Open self.new) }
         ensures opened { OnOk result (IsOpen self.new) }
         ensures sound { IsSound self.old → IsSound self.new }
         ensures spelt { IfOk result IsSpelt }
@@ -89,6 +96,7 @@ impl SheetStage {
         bytes: &[u8],
     ) -> Result<Batch, RerunError>
         ensures takes { (me n : ℕ) → TakesLine me n self.old (SheetLine.In reading address bytes.now) result self.new }
+        ensures leads { OnOk result (Leads self.old (SheetLine.In reading address bytes.now) self.new) }
         ensures opened { OnOk result (IsOpen self.new) }
         ensures sound { IsSound self.old → IsSound self.new }
         ensures spelt { IsSound self.old → IfOk result IsSpelt }
@@ -96,13 +104,20 @@ impl SheetStage {
         let SheetStage::Running { core } = self else {
             return Err(RerunError::Misplaced);
         };
-        let batch = come(alloc, core, reading, address, bytes)?;
-        Ok(batch)
+        match come(alloc, core, reading, address, bytes) {
+            Ok(batch) => Ok(batch),
+            Err(NoMemory) => {
+                // Half a step was made.
+                *self = SheetStage::Spent;
+                Err(RerunError::NoMemory)
+            }
+        }
     }
 
     /// Steps the replica on a tick.
     fn tick(&mut self, reading: u64) -> Result<Batch, RerunError>
         ensures takes { (me n : ℕ) → TakesLine me n self.old (SheetLine.Tick reading) result self.new }
+        ensures leads { OnOk result (Leads self.old (SheetLine.Tick reading) self.new) }
         ensures opened { OnOk result (IsOpen self.new) }
         ensures sound { IsSound self.old → IsSound self.new }
         ensures spelt { IsSound self.old → IfOk result IsSpelt }
@@ -110,8 +125,14 @@ impl SheetStage {
         let SheetStage::Running { core } = self else {
             return Err(RerunError::Misplaced);
         };
-        let batch = tick(core, reading)?;
-        Ok(batch)
+        match tick(core, reading) {
+            Ok(batch) => Ok(batch),
+            Err(NoMemory) => {
+                // Half a step was made.
+                *self = SheetStage::Spent;
+                Err(RerunError::NoMemory)
+            }
+        }
     }
 
     /// Steps the replica on a suspicion.
@@ -122,6 +143,7 @@ impl SheetStage {
         members: &Members,
     ) -> Result<Batch, RerunError>
         ensures takes { (me n : ℕ) → TakesLine me n self.old (SheetLine.Suspect reading members.now) result self.new }
+        ensures leads { OnOk result (Leads self.old (SheetLine.Suspect reading members.now) self.new) }
         ensures opened { OnOk result (IsOpen self.new) }
         ensures sound { IsSound self.old → IsSound self.new }
         ensures spelt { IsSound self.old → IfOk result IsSpelt }
@@ -129,7 +151,13 @@ impl SheetStage {
         let SheetStage::Running { core } = self else {
             return Err(RerunError::Misplaced);
         };
-        let batch = suspect(alloc, core, reading, members)?;
-        Ok(batch)
+        match suspect(alloc, core, reading, members) {
+            Ok(batch) => Ok(batch),
+            Err(NoMemory) => {
+                // Half a step was made.
+                *self = SheetStage::Spent;
+                Err(RerunError::NoMemory)
+            }
+        }
     }
 }

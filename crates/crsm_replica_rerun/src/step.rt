@@ -7,7 +7,7 @@ ghost use Rattle.crsm_spec.specs.Draft.{begun};
 ghost use Rattle.crsm_spec.specs.Node.{Turn};
 ghost use Rattle.crsm_spec.specs.Replica.{Replica};
 ghost use Rattle.crsm_spec.specs.Step as rules;
-ghost use Rattle.crsm_replica_rerun.specs.Stages.{IsNothing, IsSpelt, IsUsable, TakesTurn};
+ghost use Rattle.crsm_replica_rerun.specs.Stages.{IsNothing, IsSpelt, TakesTurn};
 
 use crsm_base::{Lines, Members, NoMemory, Recs, Sends};
 use crsm_core::{Batch, Core, Input};
@@ -31,10 +31,8 @@ pub(crate) fn nothing(alloc: Global) -> Batch
 /// Runs one step of the core on an input.
 fn step(core: &mut Core, input: &Input, reading: u64) -> Result<Batch, NoMemory>
     requires { FitsInput input.now }
-    ensures ruled { IfOk result (λ batch. (r : Replica) → CoreStands core.old r →
+    ensures { IfOk result (λ batch. (r : Replica) → CoreStands core.old r →
         Answers batch (rules.step r (input_of input.now) reading) × CoreStands core.new (rules.step r (input_of input.now) reading).replica) }
-    ensures usable { IsUsable core.old → IsUsable core.new }
-    ensures spelt { IsUsable core.old → IfOk result IsSpelt }
 {
     let batch = core.step(input, reading)?;
     Ok(batch)
@@ -49,9 +47,7 @@ pub(crate) fn come(
     address: u64,
     bytes: &[u8],
 ) -> Result<Batch, NoMemory>
-    ensures turn { TakesTurn core.old (Turn.In address bytes.now, reading) result core.new }
-    ensures usable { IsUsable core.old → IsUsable core.new }
-    ensures spelt { IsUsable core.old → IfOk result IsSpelt }
+    ensures { TakesTurn core.old (Turn.In address bytes.now, reading) result core.new }
 {
     match read_datagram(alloc, bytes) {
         Ok(datagram) => {
@@ -67,9 +63,7 @@ pub(crate) fn come(
 /// Runs the step of a turn that took a tick.
 #[tactic(auto, unfolding(crsm_core::specs::Inputs::input_of, crsm_spec::specs::Node::turn, crsm_spec::specs::Node::input_of))]
 pub(crate) fn tick(core: &mut Core, reading: u64) -> Result<Batch, NoMemory>
-    ensures turn { TakesTurn core.old (Turn.Tick, reading) result core.new }
-    ensures usable { IsUsable core.old → IsUsable core.new }
-    ensures spelt { IsUsable core.old → IfOk result IsSpelt }
+    ensures { TakesTurn core.old (Turn.Tick, reading) result core.new }
 {
     step(core, &Input::Tick, reading)
 }
@@ -82,9 +76,7 @@ pub(crate) fn suspect(
     reading: u64,
     members: &Members,
 ) -> Result<Batch, NoMemory>
-    ensures turn { TakesTurn core.old (Turn.Suspect members.now, reading) result core.new }
-    ensures usable { IsUsable core.old → IsUsable core.new }
-    ensures spelt { IsUsable core.old → IfOk result IsSpelt }
+    ensures { TakesTurn core.old (Turn.Suspect members.now, reading) result core.new }
 {
     let members = members.copy(alloc)?;
     step(core, &Input::Suspect { members }, reading)

@@ -4,7 +4,7 @@ use Rattle.crsm_spec.specs.Node.{Turn, turn, input_of as input_of_turn}
 use Rattle.crsm_replica_rerun.specs.Stages.{TakesTurn}
 use Rattle.crsm_replica_rerun.proofs.step.suspect.Goals as goal
 
-pub returns-clause-turn : goal.returns-clause-turn
+pub returns : goal.returns
 unfolding turn input_of_turn input_of
-returns-clause-turn c =
-    subst (λ (m : List ℕ). TakesTurn c.args.core.now (Turn.Suspect m, c.args.reading) c.step.result c.step.new.core) c.in_ok-members.ensures c.step.ensures.ruled
+returns c =
+    subst (λ (m : List ℕ). TakesTurn c.args.core.now (Turn.Suspect m, c.args.reading) c.step.result c.step.new.core) c.in_ok-members.ensures c.step.ensures
