@@ -47,9 +47,9 @@ is_opened (Suspect r m) rerun not_body o = o
 
 -- what was added to the account by a body
 pub record Finds (body : List ℕ) (old new : Account) : Type 0 where
-  pub held : (recs : List Rec) → SpeltBody recs body → new.held ≡ old.held ++ spelt (own_in old.me recs)
+  pub held : (recs : List Rec) → SpeltBody recs body → new.entries.held ≡ old.entries.held ++ spelt (own_in old.me recs)
   pub me : new.me ≡ old.me
-  pub list : new.list ≡ old.list
+  pub list : new.entries.list ≡ old.entries.list
   pub dropped : new.dropped.items ≡ old.dropped.items
 
 found_more : (me n : ℕ) (bodies : List (List ℕ)) (body : List ℕ) (old new : Account) → FoundAccount me n bodies old → Finds body old new → FoundAccount me n (bodies ++ body ∷ []) new
@@ -99,18 +99,18 @@ finds me n first old new before after own steps body batch s a f =
 
 -- what was added to the account by a step, at the line with this number
 pub record Takes (at : ℕ) (batch : Batch) (ledger : Ledger) (old new : Account) : Type 0 where
-  pub held : new.held ≡ old.held ++ spelt (own_in old.me batch.records)
+  pub held : new.entries.held ≡ old.entries.held ++ spelt (own_in old.me batch.records)
   pub dropped : new.dropped.items ≡ old.dropped.items ++ dropped_in at batch.lines
-  pub list : (me n : ℕ) (log : Log) (es : List LogEntry) → LedgerStands me n ledger log → IsPrefixOf es (executed log) → old.list ≡ spelt es → new.list ≡ spelt (executed log)
+  pub list : (me n : ℕ) (log : Log) (es : List LogEntry) → LedgerStands me n ledger log → IsPrefixOf es (executed log) → old.entries.list ≡ spelt es → new.entries.list ≡ spelt (executed log)
   pub me : new.me ≡ old.me
 
 -- the account before the step: of this log and these steps, with a part of what is executed now
 record Had (me opened : ℕ) (steps : List Draft) (start : Log) (x : Draft) (a : Account) : Type 0 where
   pub me_is : a.me ≡ me
   pub es : List LogEntry
-  pub list : a.list ≡ spelt es
+  pub list : a.entries.list ≡ spelt es
   pub prefix : IsPrefixOf es (executed x.replica.log)
-  pub held : a.held ≡ spelt (own_logged me start)
+  pub held : a.entries.held ≡ spelt (own_logged me start)
   pub dropped : a.dropped.items ≡ dropped_from opened steps
   pub logged : x.replica.log ≡ with_records start x.batch
 

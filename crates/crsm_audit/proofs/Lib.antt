@@ -1,4 +1,6 @@
 mod Searching
+mod KeptEntries
+mod Executed
 mod Longest
 mod Verdicts
 mod Drops

@@ -7,8 +7,8 @@ use Rattle.crsm_audit.specs.declared.account.Account.{Account}
 use Rattle.crsm_audit.specs.Lists.{longer, longest_of}
 
 pub longest_more : (accounts : List Account) (i : ℕ) (a : Account) → i < length accounts → a ≡ get_or accounts i a
-    → longest_of (take (i + 1) accounts) ≡ longer (longest_of (take i accounts)) a.list
+    → longest_of (take (i + 1) accounts) ≡ longer (longest_of (take i accounts)) a.entries.list
 unfolding longest_of
 longest_more accounts i a l e =
-    ap (fold (λ (best : List (List ℕ)) (b : Account). longer best b.list) []) (take_more accounts i a l ∙ ap (λ x. take i accounts ++ x ∷ []) (sym e))
-    ∙ fold-append (λ (best : List (List ℕ)) (b : Account). longer best b.list) [] (take i accounts) (a ∷ [])
+    ap (fold (λ (best : List (List ℕ)) (b : Account). longer best b.entries.list) []) (take_more accounts i a l ∙ ap (λ x. take i accounts ++ x ∷ []) (sym e))
+    ∙ fold-append (λ (best : List (List ℕ)) (b : Account). longer best b.entries.list) [] (take i accounts) (a ∷ [])

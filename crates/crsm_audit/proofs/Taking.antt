@@ -1,15 +1,19 @@
 -- The effect of a line, and of the end, on an audit.
-use Rattle.std.proofs.Common.{◌≡◌, ◌≢◌, ℕ, ◌+◌, ◌-◌, List, [], ◌∷◌, ◌++◌, map, length, refl, sym, ◌∙◌, ap, subst, append_assoc, inl, inr, arith}
-use Rattle.std.specs.Prelude.{Option, Some, None, Result, Ok, Err, IfErr, OnOk}
+use Rattle.std.proofs.Common.{◌≡◌, ◌≢◌, ℕ, ◌+◌, ◌-◌, List, [], ◌∷◌, ◌++◌, map, length, get_or, set, refl, sym, ◌∙◌, ap, subst, append_assoc, inl, inr, arith}
+use Rattle.std.specs.Prelude.{Some, None, Result, Ok, Err, IfErr, OnOk}
 use Rattle.std.specs.List.{AllByRecursion}
-use Rattle.std.proofs.lemmas.List.{append-nil, map-append}
-use Rattle.std.proofs.lemmas.Option.{none-some, same_Some}
+use Rattle.std.proofs.lemmas.List.{append-nil, length-append, map-append}
+use Rattle.std.proofs.lemmas.Option.{same_Some}
 use Rattle.crsm_law_sheets.specs.Laws.{AgreeingSheetsAreSafe, AreSafe, IsSound}
-use Rattle.crsm_law_sheets.specs.Sheets.{Sheet, log_after}
+use Rattle.crsm_law_sheets.specs.Sheets.{Sheet, log_after, one_list}
 use Rattle.crsm_fact_log.specs.Logs.{AllFit, AreSpelt}
-use Rattle.crsm_replica_rerun.specs.declared.rerun.Rerun.{Rerun}
-use Rattle.crsm_replica_rerun.specs.Replaying.{RerunStands}
-use Rattle.crsm_replica_rerun.specs.Sheets.{BeginASheet, HoldBadLog as HasBadLog, LeadTo, Replays}
+use Rattle.crsm_replica_rerun.specs.declared.error.RerunError.{RerunError}
+use Rattle.crsm_replica_rerun.specs.declared.stage.SheetStage.{SheetStage}
+use Rattle.crsm_replica_rerun.specs.declared.stage.SheetStage.TheVariants as sheet_stages
+use Rattle.crsm_replica_rerun.specs.Replaying.{HasOpened, LeadsTo, RerunStands}
+use Rattle.crsm_replica_rerun.specs.Sheets.{LeadTo, Replays}
+use Rattle.crsm_replica_rerun.specs.Stages.{IsOpen, IsRefusal, Leads, StageStands as SheetStageStands}
+use Rattle.crsm_replica_rerun.proofs.Prefixes.{bodies_are_no_sheet}
 use Rattle.crsm_text_sheet.specs.declared.line.SheetLine.{SheetLine}
 use Rattle.crsm_text_sheet.specs.declared.line.SheetLine.TheVariants.{Open}
 use Rattle.crsm_text_sheet.specs.declared.line.SheetLine.TheVariants as written
@@ -21,14 +25,16 @@ use Rattle.crsm_audit.specs.Accounts.{AccountStands, AccountsStand, dropped_from
 use Rattle.crsm_audit.specs.Verdict.{IsVerdict}
 use Rattle.crsm_audit.specs.declared.account.Account.{Account}
 use Rattle.crsm_audit.specs.declared.verdict.Verdict.{Verdict}
-use Rattle.crsm_audit.specs.Handled.{StandsBehind}
 use Rattle.crsm_audit.specs.Lines.{BeginAnAudit, IsAnAudit, follows, progress_after}
+use Rattle.crsm_audit.specs.Lists.{places_of}
 use Rattle.crsm_audit.specs.Sheets.{AreSheetsOf, HoldBadLog, IsSheetOf, NodeSheet, WhereAgreed, sheets_from, sheets_in}
-use Rattle.crsm_audit.specs.State.{AccountOf, AtHand, IsKnown, Replayed, SheetAdvances, SheetStands, WhereSheetStands, left_by}
-use Rattle.crsm_audit.specs.Taking.{AllDone, EndsWith, TakesBehind}
+use Rattle.crsm_audit.specs.State.{AccountOf, AtHand, SheetAdvances, SheetStands, StageStands, WhereSheetStands, left_by, progress_at, progress_of}
+use Rattle.crsm_audit.specs.Taking.{AllDone, EndsWith, Refuses}
 use Rattle.crsm_audit.specs.Texts.{verdict_text}
-use Rattle.crsm_audit.specs.declared.state.Audit.{Audit}
 use Rattle.crsm_audit.specs.declared.state.BadLog.{BadLog}
+use Rattle.crsm_audit.specs.declared.state.Sheets.{Sheets}
+use Rattle.crsm_audit.specs.declared.state.Stage.{Stage}
+use Rattle.crsm_audit.specs.declared.state.Stage.TheVariants as stages
 use Rattle.crsm_audit.specs.declared.line.AuditLine.{AuditLine}
 use Rattle.crsm_audit.specs.declared.line.AuditLine.TheVariants as lines
 use Rattle.crsm_audit.specs.declared.line.Progress.{Progress}
@@ -37,19 +43,64 @@ use Rattle.crsm_audit.proofs.Logs.{any_start, lines_count, some_steps, steps_cou
 use Rattle.crsm_audit.proofs.Parts.{accounts_more, sheets_more, with_last}
 use Rattle.crsm_audit.proofs.Places.{bodies_do_not_run, leads_begin, no_line, not_followed, progress_more, running_is_whole, whole_runs}
 
--- ---- the first line
+-- before the `open` of the last sheet the lines are no audit
+pub unfinished : (ls : List AuditLine) (p : Progress) → progress_after Before ls ≡ Some p → p ≢ Running → IsAnAudit ls → ⊥
+unfinished ls p leads other whole = other (same_Some p Running (sym leads ∙ whole_runs ls whole))
 
-pub begins : (audit : Audit) → audit.progress ≡ Before → audit.bad ≡ None → audit.accounts.items ≡ [] → StandsBehind audit []
-unfolding progress_after
-begins audit p b a = record {
-  leads = ap (λ (x : Progress). Some x) (sym p);
-  known = subst (λ (o : Option BadLog). IsKnown audit.n o audit.progress audit.rerun audit.accounts.items []) (sym b)
-      (subst (λ (x : Progress). Replayed audit.n x audit.rerun audit.accounts.items []) (sym p) (refl, a));
-}
+-- ---- the progress of a sheet
+
+-- a sheet of which bodies alone were read is not open
+pub finding_at : (me n : ℕ) (stage : SheetStage) (own : List SheetLine) (steps : List Draft) (bodies : List (List ℕ)) → own ≡ map entry_line bodies
+    → SheetStageStands me n stage own steps → progress_at stage ≡ Finding
+finding_at me n (sheet_stages.Finding found) own steps bodies is s = refl
+finding_at me n (sheet_stages.Running core) own steps bodies is s = absurd (bodies_are_no_sheet own bodies is s.sheet.bodies s.sheet.turns s.sheet.is)
+finding_at me n sheet_stages.Spent own steps bodies is s = absurd s
+
+pub open_runs : (stage : SheetStage) → IsOpen stage → progress_at stage ≡ Running
+open_runs (sheet_stages.Finding bodies) o = absurd o
+open_runs (sheet_stages.Running core) o = refl
+open_runs sheet_stages.Spent o = refl
+
+pub closed_finds : (me n : ℕ) (stage : SheetStage) (own : List SheetLine) (steps : List Draft) → SheetStageStands me n stage own steps → (IsOpen stage → ⊥) → progress_at stage ≡ Finding
+closed_finds me n (sheet_stages.Finding bodies) own steps s closed = refl
+closed_finds me n (sheet_stages.Running core) own steps s closed = absurd (closed tt)
+closed_finds me n sheet_stages.Spent own steps s closed = absurd s
+
+-- a line that was replayed may follow
+pub leads_follow : (old : SheetStage) (l : SheetLine) (new : SheetStage) → Leads old l new → follows (progress_at old) (lines.Sheet l) ≡ Some (progress_at new)
+leads_follow (sheet_stages.Finding a) (written.Entry x) (sheet_stages.Finding b) h = refl
+leads_follow (sheet_stages.Finding a) (written.Entry x) (sheet_stages.Running core) h = absurd h
+leads_follow (sheet_stages.Finding a) (written.Entry x) sheet_stages.Spent h = absurd h
+leads_follow (sheet_stages.Finding a) written.Open (sheet_stages.Finding b) h = absurd h
+leads_follow (sheet_stages.Finding a) written.Open (sheet_stages.Running core) h = refl
+leads_follow (sheet_stages.Finding a) written.Open sheet_stages.Spent h = absurd h
+leads_follow (sheet_stages.Finding a) (written.In r d x) (sheet_stages.Finding b) h = absurd h
+leads_follow (sheet_stages.Finding a) (written.In r d x) (sheet_stages.Running core) h = absurd h
+leads_follow (sheet_stages.Finding a) (written.In r d x) sheet_stages.Spent h = absurd h
+leads_follow (sheet_stages.Finding a) (written.Tick r) (sheet_stages.Finding b) h = absurd h
+leads_follow (sheet_stages.Finding a) (written.Tick r) (sheet_stages.Running core) h = absurd h
+leads_follow (sheet_stages.Finding a) (written.Tick r) sheet_stages.Spent h = absurd h
+leads_follow (sheet_stages.Finding a) (written.Suspect r m) (sheet_stages.Finding b) h = absurd h
+leads_follow (sheet_stages.Finding a) (written.Suspect r m) (sheet_stages.Running core) h = absurd h
+leads_follow (sheet_stages.Finding a) (written.Suspect r m) sheet_stages.Spent h = absurd h
+leads_follow (sheet_stages.Running c) (written.In r d x) (sheet_stages.Running core) h = refl
+leads_follow (sheet_stages.Running c) (written.Tick r) (sheet_stages.Running core) h = refl
+leads_follow (sheet_stages.Running c) (written.Suspect r m) (sheet_stages.Running core) h = refl
+leads_follow (sheet_stages.Running c) (written.Entry x) (sheet_stages.Running core) h = absurd h
+leads_follow (sheet_stages.Running c) written.Open (sheet_stages.Running core) h = absurd h
+leads_follow (sheet_stages.Running c) l (sheet_stages.Finding b) h = absurd h
+leads_follow (sheet_stages.Running c) l sheet_stages.Spent h = absurd h
+leads_follow sheet_stages.Spent l (sheet_stages.Finding b) h = absurd h
+leads_follow sheet_stages.Spent l (sheet_stages.Running core) h = absurd h
+leads_follow sheet_stages.Spent l sheet_stages.Spent h = absurd h
 
 -- ---- a sheet begins
 
-pub new_account : (me n first : ℕ) (a : Account) → a.me ≡ me → a.list ≡ [] → a.held ≡ [] → a.dropped.items ≡ [] → AccountOf me n first [] [] a
+pub begins : (n : ℕ) → StageStands n stages.Before []
+unfolding progress_after
+begins n = record { leads = refl; known = refl }
+
+pub new_account : (me n first : ℕ) (a : Account) → a.me ≡ me → a.entries.list ≡ [] → a.entries.held ≡ [] → a.dropped.items ≡ [] → AccountOf me n first [] [] a
 unfolding own_logged
 new_account me n first a me_is list held dropped [] is = record {
   me_is = me_is;
@@ -59,25 +110,26 @@ new_account me n first a me_is list held dropped [] is = record {
 }
 new_account me n first a me_is list held dropped (b ∷ bodies) is = absurd (cc)
 
-pub at_hand : (n at me : ℕ) (ls : List AuditLine) (old new : List Account) (a : Account) (rerun : Rerun) (now : Option Rerun) → AllDone n old ls → at ≡ length ls + 1 → new ≡ old ++ a ∷ []
-    → now ≡ Some rerun → RerunStands me n (at + 1) rerun [] [] → ((first : ℕ) → AccountOf me n first [] [] a) → AtHand n now new (ls ++ lines.Node me ∷ [])
-at_hand n at me ls old new a rerun now d at_is new_is now_is stands account =
+pub begun : (n at me : ℕ) (ls : List AuditLine) (old : List Account) (now : Sheets) (a : Account) → AllDone n old ls → at ≡ length ls + 1 → now.accounts.items ≡ old ++ a ∷ []
+    → RerunStands me n (at + 1) now.rerun [] [] → ((first : ℕ) → AccountOf me n first [] [] a) → StageStands n (stages.Replaying now) (ls ++ lines.Node me ∷ [])
+begun n at me ls old now a d at_is now_is stands account =
     let first : at + 1 ≡ length ls + 2 = omega (arith, at_is) in
     record {
-      before = ls;
-      sheets = d.sheets;
-      are = d.are;
-      done = old;
-      stand = d.stand;
-      me = me;
-      own = [];
-      lines_are = refl;
-      rerun = rerun;
-      rerun_is = now_is;
-      account = a;
-      accounts_are = new_is;
-      steps = [];
-      stands = record { replayed = subst (λ (k : ℕ). RerunStands me n k rerun [] []) first stands; account = account (length ls + 2) };
+      leads = d.next me ∙ ap (λ (p : Progress). Some p) (sym (finding_at me n now.rerun.stage [] [] [] refl stands.stage));
+      known = record {
+        before = ls;
+        sheets = d.sheets;
+        are = d.are;
+        done = old;
+        stand = d.stand;
+        me = me;
+        own = [];
+        lines_are = refl;
+        account = a;
+        accounts_are = now_is;
+        steps = [];
+        stands = record { replayed = subst (λ (k : ℕ). RerunStands me n k now.rerun [] []) first stands; account = account (length ls + 2) };
+      };
     }
 
 -- ---- a sheet is whole
@@ -108,8 +160,8 @@ account_stands me n first own (x ∷ xs) a p h =
     }
 
 -- the current sheet has run, so it is a sheet
-replays : (n : ℕ) (replay : Option Rerun) (accounts : List Account) (ls : List AuditLine) (h : AtHand n replay accounts ls) → progress_after Before ls ≡ Some Running → Replays h.me n h.own h.steps
-replays n replay accounts ls h runs = go h.stands.replayed.leads
+replays : (n : ℕ) (now : Sheets) (ls : List AuditLine) (h : AtHand n now ls) → progress_after Before ls ≡ Some Running → Replays h.me n h.own h.steps
+replays n now ls h runs = go h.stands.replayed.leads
   where
     go : LeadTo h.me n h.own h.steps → Replays h.me n h.own h.steps
     go (inr p) = p
@@ -117,10 +169,10 @@ replays n replay accounts ls h runs = go h.stands.replayed.leads
         ap (progress_after Before) (sym (h.lines_are ∙ ap (λ (own : List SheetLine). h.before ++ lines.Node h.me ∷ map lines.Sheet own) p.0.is)) ∙ runs
         ))
 
-done_at_hand : (n : ℕ) (replay : Option Rerun) (accounts : List Account) (ls : List AuditLine) → AtHand n replay accounts ls → progress_after Before ls ≡ Some Running → AllDone n accounts ls
+pub done_at_hand : (n : ℕ) (now : Sheets) (ls : List AuditLine) → AtHand n now ls → progress_after Before ls ≡ Some Running → AllDone n now.accounts.items ls
 unfolding sheet_here
-done_at_hand n replay accounts ls h runs =
-    let p = replays n replay accounts ls h runs in
+done_at_hand n now ls h runs =
+    let p = replays n now ls h runs in
     let first = length h.before + 2 in
     let s = sheet_here h.me n first h.own h.steps p in
     let node : NodeSheet = record { me = h.me; first = first; lines = h.own } in
@@ -131,87 +183,44 @@ done_at_hand n replay accounts ls h runs =
       are = subst (λ (ns : List NodeSheet). AreSheetsOf n ns (h.sheets ++ s ∷ [])) (sym nodes) (sheets_more n (sheets_in h.before) h.sheets node s h.are is);
       stand = subst (λ (kept : List Account). AccountsStand n kept (h.sheets ++ s ∷ [])) (sym h.accounts_are)
           (accounts_more n h.done h.sheets h.account s h.stand (account_stands h.me n first h.own h.steps h.account p h.stands.account));
+      next = λ me. progress_more Before Running ls (lines.Node me) runs;
     }
 
 no_sheets : (ls : List AuditLine) → ls ≡ [] → sheets_in ls ≡ []
 unfolding sheets_from
 no_sheets ls none = ap sheets_in none
 
--- where a sheet may begin, those before it are done
-pub all_done : (audit : Audit) (ls : List AuditLine) (me : ℕ) (p : Progress) → StandsBehind audit ls → audit.bad ≡ None → follows audit.progress (lines.Node me) ≡ Some p
-    → AllDone audit.n audit.accounts.items ls
-all_done audit ls me p s none next =
-    go audit.progress s.leads next (subst (λ (o : Option BadLog). IsKnown audit.n o audit.progress audit.rerun audit.accounts.items ls) none s.known)
-  where
-    nothing : (n : ℕ) (accounts : List Account) → ls ≡ [] → accounts ≡ [] → AllDone n accounts ls
-    nothing n accounts no_lines no_accounts = record {
-      sheets = [];
-      are = subst (λ (ns : List NodeSheet). AreSheetsOf n ns []) (sym (no_sheets ls no_lines)) tt;
-      stand = subst (λ (kept : List Account). AccountsStand n kept []) (sym no_accounts) tt;
-    }
+-- before the first line none is
+pub none_done : (n : ℕ) (ls : List AuditLine) → ls ≡ [] → AllDone n [] ls
+unfolding progress_after
+none_done n ls none = record {
+  sheets = [];
+  are = subst (λ (ns : List NodeSheet). AreSheetsOf n ns []) (sym (no_sheets ls none)) tt;
+  stand = tt;
+  next = λ me. ap (λ (xs : List AuditLine). progress_after Before (xs ++ lines.Node me ∷ [])) none;
+}
 
-    go : (q : Progress) → progress_after Before ls ≡ Some q → follows q (lines.Node me) ≡ Some p → Replayed audit.n q audit.rerun audit.accounts.items ls → AllDone audit.n audit.accounts.items ls
-    go Before leads e known = nothing audit.n audit.accounts.items known.0 known.1
-    go Finding leads e known = absurd (none-some p e)
-    go Running leads e known = done_at_hand audit.n audit.rerun audit.accounts.items ls known leads
+-- ---- the last account
+
+last_at : (xs ys : List Account) (y d : Account) → xs ≡ ys ++ y ∷ [] → get_or xs (length xs - 1) d ≡ y
+last_at xs ys y d is =
+    let count : length (ys ++ y ∷ []) - 1 ≡ length ys = (let c = length-append ys (y ∷ []) in omega (arith, c)) in
+    subst (λ (zs : List Account). get_or zs (length zs - 1) d ≡ y) (sym is) (ap (λ (k : ℕ). get_or (ys ++ y ∷ []) k d) count ∙ go ys)
+  where
+    go : (zs : List Account) → get_or (zs ++ y ∷ []) (length zs) d ≡ y
+    go [] = refl
+    go (z ∷ zs) = go zs
+
+last_set : (xs ys : List Account) (y z : Account) → xs ≡ ys ++ y ∷ [] → set xs (length xs - 1) z ≡ ys ++ z ∷ []
+last_set xs ys y z is =
+    let count : length (ys ++ y ∷ []) - 1 ≡ length ys = (let c = length-append ys (y ∷ []) in omega (arith, c)) in
+    subst (λ (ws : List Account). set ws (length ws - 1) z ≡ ys ++ z ∷ []) (sym is) (ap (λ (k : ℕ). set (ys ++ y ∷ []) k z) count ∙ go ys)
+  where
+    go : (ws : List Account) → set (ws ++ y ∷ []) (length ws) z ≡ ws ++ z ∷ []
+    go [] = refl
+    go (w ∷ ws) = ap (λ (vs : List Account). w ∷ vs) (go ws)
 
 -- ---- one more line of the current sheet
-
-no_snoc : (xs : List Account) (x : Account) → [] ≡ xs ++ x ∷ [] → ⊥
-no_snoc [] x e = cc
-no_snoc (z ∷ xs) x e = cc
-
-same_accounts : (xs ys : List Account) (x y : Account) → xs ++ x ∷ [] ≡ ys ++ y ∷ [] → (xs ≡ ys) × (x ≡ y)
-same_accounts [] [] x y e = (refl, cc)
-same_accounts [] (z ∷ ys) x y e = let tails : [] ≡ ys ++ y ∷ [] = cc in absurd (no_snoc ys y tails)
-same_accounts (z ∷ xs) [] x y e = let tails : xs ++ x ∷ [] ≡ [] = cc in absurd (no_snoc xs x (sym tails))
-same_accounts (z ∷ xs) (w ∷ ys) x y e =
-    let head : z ≡ w = cc in
-    let tails : xs ++ x ∷ [] ≡ ys ++ y ∷ [] = cc in
-    let rest = same_accounts xs ys x y tails in
-    (ap (λ (v : Account). v ∷ xs) head ∙ ap (λ (vs : List Account). w ∷ vs) rest.0, rest.1)
-
--- a line of a sheet leaves none before its beginning
-never_before : (q : Progress) (l : SheetLine) → follows q (lines.Sheet l) ≡ Some Before → ⊥
-never_before Before (written.Entry b) e = cc
-never_before Before written.Open e = cc
-never_before Before (written.In r a b) e = cc
-never_before Before (written.Tick r) e = cc
-never_before Before (written.Suspect r m) e = cc
-never_before Finding (written.Entry b) e = cc
-never_before Finding written.Open e = cc
-never_before Finding (written.In r a b) e = cc
-never_before Finding (written.Tick r) e = cc
-never_before Finding (written.Suspect r m) e = cc
-never_before Running (written.Entry b) e = cc
-never_before Running written.Open e = cc
-never_before Running (written.In r a b) e = cc
-never_before Running (written.Tick r) e = cc
-never_before Running (written.Suspect r m) e = cc
-
--- where a line of a sheet may follow, a sheet is current
-pub sheet_at_hand : (audit : Audit) (ls : List AuditLine) (l : SheetLine) (p : Progress) → StandsBehind audit ls → audit.bad ≡ None → follows audit.progress (lines.Sheet l) ≡ Some p
-    → AtHand audit.n audit.rerun audit.accounts.items ls
-sheet_at_hand audit ls l p s none next =
-    go audit.progress next (subst (λ (o : Option BadLog). IsKnown audit.n o audit.progress audit.rerun audit.accounts.items ls) none s.known)
-  where
-    nowhere : (k : SheetLine) → follows Before (lines.Sheet k) ≡ Some p → ⊥
-    nowhere (written.Entry b) e = none-some p e
-    nowhere written.Open e = none-some p e
-    nowhere (written.In r a b) e = none-some p e
-    nowhere (written.Tick r) e = none-some p e
-    nowhere (written.Suspect r m) e = none-some p e
-
-    go : (q : Progress) → follows q (lines.Sheet l) ≡ Some p → Replayed audit.n q audit.rerun audit.accounts.items ls → AtHand audit.n audit.rerun audit.accounts.items ls
-    go Before e known = absurd (nowhere l e)
-    go Finding e known = known
-    go Running e known = known
-
-known_at_hand : (n : ℕ) (p q : Progress) (l : SheetLine) (replay : Option Rerun) (accounts : List Account) (ls : List AuditLine) → follows q (lines.Sheet l) ≡ Some p
-    → AtHand n replay accounts ls → Replayed n p replay accounts ls
-known_at_hand n Before q l replay accounts ls e h = absurd (never_before q l e)
-known_at_hand n Finding q l replay accounts ls e h = h
-known_at_hand n Running q l replay accounts ls e h = h
 
 lines_more : (ls before : List AuditLine) (me : ℕ) (own : List SheetLine) (l : SheetLine) → ls ≡ before ++ lines.Node me ∷ map lines.Sheet own
     → ls ++ lines.Sheet l ∷ [] ≡ before ++ lines.Node me ∷ map lines.Sheet (own ++ l ∷ [])
@@ -220,56 +229,110 @@ lines_more ls before me own l is =
     ∙ append_assoc before (lines.Node me ∷ map lines.Sheet own) (lines.Sheet l ∷ [])
     ∙ ap (λ (x : List AuditLine). before ++ lines.Node me ∷ x) (sym (map-append lines.Sheet own (l ∷ [])))
 
-module _ (n : ℕ) (replay : Option Rerun) (accounts rest : List Account) (popped : Account) (rerun : Rerun) (ls : List AuditLine) (l : SheetLine)
-    (popped_is : accounts ≡ rest ++ popped ∷ []) (rerun_is : replay ≡ Some rerun) (h : AtHand n replay accounts ls) where
-  accounts_same : (rest ≡ h.done) × (popped ≡ h.account)
-  accounts_same = same_accounts rest h.done popped h.account (sym popped_is ∙ h.accounts_are)
-
-  -- the current sheet is that of the account that was removed
-  pub here : SheetStands h.me n (length h.before + 2) rerun popped h.own h.steps
+module _ (n : ℕ) (old : Sheets) (ls : List AuditLine) (l : SheetLine) (h : AtHand n old ls) (last : Account)
+    (last_is : last ≡ get_or old.accounts.items (length old.accounts.items - 1) last) where
+  -- the current sheet is that of the last account
+  here : SheetStands h.me n (length h.before + 2) old.rerun last h.own h.steps
   here =
-      subst (λ (r : Rerun). SheetStands h.me n (length h.before + 2) r popped h.own h.steps) (same_Some h.rerun rerun (sym h.rerun_is ∙ rerun_is))
-      (subst (λ (a : Account). SheetStands h.me n (length h.before + 2) h.rerun a h.own h.steps) (sym accounts_same.1) h.stands)
+      let same : last ≡ h.account = last_is ∙ last_at old.accounts.items h.done h.account last h.accounts_are in
+      subst (λ (a : Account). SheetStands h.me n (length h.before + 2) old.rerun a h.own h.steps) (sym same) h.stands
 
-  pub still_at_hand : (new : Rerun) (a : Account) (now : Option Rerun) (all : List Account) → now ≡ Some new → all ≡ rest ++ a ∷ []
-      → SheetAdvances h.me n (length h.before + 2) new a h.own h.steps l → AtHand n now all (ls ++ lines.Sheet l ∷ [])
-  still_at_hand new a now all now_is all_is adv = record {
-    before = h.before;
-    sheets = h.sheets;
-    are = h.are;
-    done = h.done;
-    stand = h.stand;
-    me = h.me;
-    own = h.own ++ l ∷ [];
-    lines_are = lines_more ls h.before h.me h.own l h.lines_are;
-    rerun = new;
-    rerun_is = now_is;
-    account = a;
-    accounts_are = all_is ∙ ap (λ (kept : List Account). kept ++ a ∷ []) accounts_same.0;
-    steps = h.steps ++ adv.more;
-    stands = adv.stands;
-  }
-
-  -- the log that it found is bad
-  pub bad_log_here : (entry why : ℕ) → l ≡ Open → HasBadLog h.me n h.own entry why → HoldBadLog n (ls ++ lines.Sheet l ∷ []) entry why
-  bad_log_here entry why is_open bad =
-      let bodies = bad.are.bodies in
-      let own : h.own ++ l ∷ [] ≡ map entry_line bodies ++ Open ∷ [] = ap (λ (o : List SheetLine). o ++ l ∷ []) bad.are.is ∙ ap (λ (x : SheetLine). map entry_line bodies ++ x ∷ []) is_open in
+  pub still_at_hand : (now : Sheets) (a : Account) → now.accounts.items ≡ set old.accounts.items (length old.accounts.items - 1) a
+      → WhereSheetStands old.rerun last (λ me n first own steps. SheetAdvances me n first now.rerun a own steps l) → AtHand n now (ls ++ lines.Sheet l ∷ [])
+  still_at_hand now a set_is advances =
+      let adv = advances h.me n (length h.before + 2) h.own h.steps here in
       record {
         before = h.before;
         sheets = h.sheets;
         are = h.are;
+        done = h.done;
+        stand = h.stand;
         me = h.me;
-        bodies = bodies;
-        more = [];
-        is =
-            lines_more ls h.before h.me h.own l h.lines_are
-            ∙ ap (λ (o : List SheetLine). h.before ++ lines.Node h.me ∷ map lines.Sheet o) own
-            ∙ ap (λ (x : List AuditLine). h.before ++ lines.Node h.me ∷ x) (sym (append-nil (map lines.Sheet (map entry_line bodies ++ Open ∷ []))));
-        bad = bad.bad;
+        own = h.own ++ l ∷ [];
+        lines_are = lines_more ls h.before h.me h.own l h.lines_are;
+        account = a;
+        accounts_are = set_is ∙ last_set old.accounts.items h.done h.account a h.accounts_are;
+        steps = h.steps ++ adv.more;
+        stands = adv.stands;
       }
 
--- ---- any line more
+  -- why the line is not replayed
+  pub refuses : (why : RerunError) → WhereSheetStands old.rerun last (λ me n first own steps. IsRefusal me n own l why) → Refuses n ls old l why
+  refuses RerunError.NoMemory refused = tt
+  refuses RerunError.Misplaced refused =
+      no_line (ls ++ lines.Sheet l ∷ []) h.before h.me (h.own ++ l ∷ []) (lines_more ls h.before h.me h.own l h.lines_are)
+      (refused h.me n (length h.before + 2) h.own h.steps here)
+  refuses (RerunError.BadLog entry why) refused =
+      let r = refused h.me n (length h.before + 2) h.own h.steps here in
+      let bad = r.1 in
+      let bodies = bad.are.bodies in
+      let own : h.own ++ l ∷ [] ≡ map entry_line bodies ++ Open ∷ [] = ap (λ (o : List SheetLine). o ++ l ∷ []) bad.are.is ∙ ap (λ (x : SheetLine). map entry_line bodies ++ x ∷ []) r.0 in (
+        r.0,
+        finding_at h.me n old.rerun.stage h.own h.steps bodies bad.are.is h.stands.replayed.stage,
+        record {
+          before = h.before;
+          sheets = h.sheets;
+          are = h.are;
+          me = h.me;
+          bodies = bodies;
+          more = [];
+          is =
+              lines_more ls h.before h.me h.own l h.lines_are
+              ∙ ap (λ (o : List SheetLine). h.before ++ lines.Node h.me ∷ map lines.Sheet o) own
+              ∙ ap (λ (x : List AuditLine). h.before ++ lines.Node h.me ∷ x) (sym (append-nil (map lines.Sheet (map entry_line bodies ++ Open ∷ []))));
+          bad = bad.bad;
+        },
+      )
+
+  -- the same of what the replay returns
+  pub still_on : {X : Type 0} (result : Result X RerunError) (now : Sheets) (a : Account) → now.accounts.items ≡ set old.accounts.items (length old.accounts.items - 1) a
+      → WhereSheetStands old.rerun last (λ me n first own steps. OnOk result (SheetAdvances me n first now.rerun a own steps l)) → OnOk result (AtHand n now (ls ++ lines.Sheet l ∷ []))
+  still_on (Ok x) now a set_is advances = still_at_hand now a set_is advances
+  still_on (Err why) now a set_is advances = tt
+
+  pub refuses_on : {X : Type 0} (result : Result X RerunError) → WhereSheetStands old.rerun last (λ me n first own steps. IfErr result (IsRefusal me n own l)) → IfErr result (Refuses n ls old l)
+  refuses_on (Ok x) refused = tt
+  refuses_on (Err why) refused = refuses why refused
+
+-- the audit behind a line that was replayed
+pub replays_on : (n : ℕ) (old new : Sheets) (ls : List AuditLine) (l : SheetLine) → StageStands n (stages.Replaying old) ls → LeadsTo old.rerun l new.rerun
+    → AtHand n new (ls ++ lines.Sheet l ∷ []) → StageStands n (stages.Replaying new) (ls ++ lines.Sheet l ∷ [])
+replays_on n old new ls l s leads now = record {
+  leads = progress_more Before (progress_at old.rerun.stage) ls (lines.Sheet l) s.leads ∙ leads_follow old.rerun.stage l new.rerun.stage leads;
+  known = now;
+}
+
+-- and behind the `open` of a bad log
+pub turns_bad : (n : ℕ) (old : Sheets) (ls : List AuditLine) (l : SheetLine) (bad : BadLog) → StageStands n (stages.Replaying old) ls → Refuses n ls old l (RerunError.BadLog bad.entry bad.why)
+    → StageStands n (stages.Refusing bad Running) (ls ++ lines.Sheet l ∷ [])
+turns_bad n old ls l bad s why = record {
+  leads = progress_more Before (progress_at old.rerun.stage) ls (lines.Sheet l) s.leads
+      ∙ ap (λ (p : Progress). follows p (lines.Sheet l)) why.1 ∙ ap (λ (x : SheetLine). follows Finding (lines.Sheet x)) why.0;
+  known = why.2;
+}
+
+-- a sheet that is not open is followed by no other
+pub not_ended : (n : ℕ) (old : Sheets) (ls : List AuditLine) (me : ℕ) → StageStands n (stages.Replaying old) ls → (HasOpened old.rerun → ⊥) → BeginAnAudit (ls ++ lines.Node me ∷ []) → ⊥
+not_ended n old ls me s closed =
+    let h = s.known in
+    let finds = closed_finds h.me n old.rerun.stage h.own h.steps h.stands.replayed.stage closed in
+    not_followed Finding ls (lines.Node me) (s.leads ∙ ap (λ (p : Progress). Some p) finds) refl
+
+-- nor is it whole
+pub not_whole : (n : ℕ) (old : Sheets) (ls : List AuditLine) → StageStands n (stages.Replaying old) ls → (HasOpened old.rerun → ⊥) → IsAnAudit ls → ⊥
+not_whole n old ls s closed whole =
+    let h = s.known in
+    let finds = closed_finds h.me n old.rerun.stage h.own h.steps h.stands.replayed.stage closed in
+    unfinished ls Finding (s.leads ∙ ap (λ (p : Progress). Some p) finds) apart whole
+  where
+    apart : Finding ≢ Running
+    apart e = cc
+
+-- where it is open, it may be the last
+pub opened_runs : (n : ℕ) (old : Sheets) (ls : List AuditLine) → StageStands n (stages.Replaying old) ls → HasOpened old.rerun → progress_after Before ls ≡ Some Running
+opened_runs n old ls s o = s.leads ∙ ap (λ (p : Progress). Some p) (open_runs old.rerun.stage o)
+
+-- ---- a line behind a bad log
 
 -- a bad log stays bad
 pub still_bad : (n : ℕ) (ls : List AuditLine) (l : AuditLine) (entry why : ℕ) → HoldBadLog n ls entry why → HoldBadLog n (ls ++ l ∷ []) entry why
@@ -289,131 +352,48 @@ still_bad n ls l entry why h =
       bad = h.bad;
     }
 
-pub takes_bad : (old new : Audit) (ls : List AuditLine) (l : AuditLine) (bad : BadLog) → old.bad ≡ Some bad → new.n ≡ old.n → new.bad ≡ old.bad → TakesBehind ls old l new
-unfolding TakesBehind
-takes_bad old new ls l bad is n_is same = λ p s next.
-    let held : HoldBadLog old.n ls bad.entry bad.why = subst (λ (o : Option BadLog). IsKnown old.n o old.progress old.rerun old.accounts.items ls) is s.known in
-    subst (λ (o : Option BadLog). IsKnown new.n o p new.rerun new.accounts.items (ls ++ l ∷ [])) (sym (same ∙ is))
-    (subst (λ (k : ℕ). HoldBadLog k (ls ++ l ∷ []) bad.entry bad.why) (sym n_is) (still_bad old.n ls l bad.entry bad.why held))
+-- a line that may follow there
+pub stays_bad : (n : ℕ) (ls : List AuditLine) (l : AuditLine) (bad : BadLog) (p q : Progress) → StageStands n (stages.Refusing bad p) ls → follows p l ≡ Some q
+    → StageStands n (stages.Refusing bad q) (ls ++ l ∷ [])
+stays_bad n ls l bad p q s next = record { leads = progress_more Before p ls l s.leads ∙ next; known = still_bad n ls l bad.entry bad.why s.known }
 
-pub takes_any_bad : (audit : Audit) (ls : List AuditLine) (l : AuditLine) → audit.bad ≢ None → TakesBehind ls audit l audit
-takes_any_bad audit ls l some = go audit.bad refl
-  where
-    go : (bad : Option BadLog) → audit.bad ≡ bad → TakesBehind ls audit l audit
-    go None is = absurd (some is)
-    go (Some bad) is = takes_bad audit audit ls l bad is refl refl
+-- ---- the first line
 
--- a line of the current sheet
-pub takes_sheet : (old new : Audit) (ls : List AuditLine) (l : SheetLine) (rest : List Account) (popped after : Account) (rerun now : Rerun) → old.bad ≡ None → new.n ≡ old.n → new.bad ≡ old.bad
-    → old.accounts.items ≡ rest ++ popped ∷ [] → old.rerun ≡ Some rerun → new.rerun ≡ Some now → new.accounts.items ≡ rest ++ after ∷ []
-    → WhereSheetStands rerun popped (λ me n first own steps. SheetAdvances me n first now after own steps l) → TakesBehind ls old (lines.Sheet l) new
-unfolding TakesBehind
-takes_sheet old new ls l rest popped after rerun now none n_is same popped_is rerun_is now_is after_is advances = λ p s next.
-    let h = sheet_at_hand old ls l p s none next in
-    let stands = here old.n old.rerun old.accounts.items rest popped rerun ls l popped_is rerun_is h in
-    let hand = still_at_hand old.n old.rerun old.accounts.items rest popped rerun ls l popped_is rerun_is h now after new.rerun new.accounts.items now_is after_is
-    (advances h.me old.n (length h.before + 2) h.own h.steps stands) in
-    subst (λ (o : Option BadLog). IsKnown new.n o p new.rerun new.accounts.items (ls ++ lines.Sheet l ∷ [])) (sym (same ∙ none))
-    (subst (λ (k : ℕ). Replayed k p new.rerun new.accounts.items (ls ++ lines.Sheet l ∷ [])) (sym n_is)
-    (known_at_hand old.n p old.progress l new.rerun new.accounts.items (ls ++ lines.Sheet l ∷ []) next hand))
+none_before : (l : AuditLine) → ((me : ℕ) → l ≡ lines.Node me → ⊥) → follows Before l ≡ None
+none_before (lines.Node me) other = absurd (other me refl)
+none_before (lines.Sheet (written.Entry b)) other = refl
+none_before (lines.Sheet written.Open) other = refl
+none_before (lines.Sheet (written.In r a b)) other = refl
+none_before (lines.Sheet (written.Tick r)) other = refl
+none_before (lines.Sheet (written.Suspect r m)) other = refl
 
--- ---- a line of a sheet that is refused
+-- it names a node
+pub not_first : (n : ℕ) (ls : List AuditLine) (l : AuditLine) → StageStands n stages.Before ls → ((me : ℕ) → l ≡ lines.Node me → ⊥) → BeginAnAudit (ls ++ l ∷ []) → ⊥
+not_first n ls l s other = not_followed Before ls l s.leads (none_before l other)
 
-none_before : (l : SheetLine) → follows Before (lines.Sheet l) ≡ None
-none_before (written.Entry b) = refl
-none_before Open = refl
-none_before (written.In r a b) = refl
-none_before (written.Tick r) = refl
-none_before (written.Suspect r m) = refl
+-- behind a bad log a line is refused by its place alone
+pub not_behind_bad : (n : ℕ) (ls : List AuditLine) (l : AuditLine) (bad : BadLog) (p : Progress) → StageStands n (stages.Refusing bad p) ls → follows p l ≡ None → BeginAnAudit (ls ++ l ∷ []) → ⊥
+not_behind_bad n ls l bad p s none = not_followed p ls l s.leads none
 
--- a line of a sheet stands in no audit if it does not where a sheet is current
-not_in_current : (audit : Audit) (ls : List AuditLine) (l : SheetLine) → audit.bad ≡ None → StandsBehind audit ls
-    → (AtHand audit.n audit.rerun audit.accounts.items ls → BeginAnAudit (ls ++ lines.Sheet l ∷ []) → ⊥) → BeginAnAudit (ls ++ lines.Sheet l ∷ []) → ⊥
-not_in_current audit ls l none s refused =
-    go audit.progress s.leads (subst (λ (o : Option BadLog). IsKnown audit.n o audit.progress audit.rerun audit.accounts.items ls) none s.known)
-  where
-    go : (q : Progress) → progress_after Before ls ≡ Some q → Replayed audit.n q audit.rerun audit.accounts.items ls → BeginAnAudit (ls ++ lines.Sheet l ∷ []) → ⊥
-    go Before leads known = not_followed Before ls (lines.Sheet l) leads (none_before l)
-    go Finding leads known = refused known
-    go Running leads known = refused known
+-- ---- any line
 
-pub refused_unreplayed : (audit : Audit) (ls : List AuditLine) (l : SheetLine) → audit.bad ≡ None → StandsBehind audit ls → audit.rerun ≡ None → BeginAnAudit (ls ++ lines.Sheet l ∷ []) → ⊥
-refused_unreplayed audit ls l none s is = not_in_current audit ls l none s (λ h begun. none-some h.rerun (sym is ∙ h.rerun_is))
-
-pub refused_unaccounted : (audit : Audit) (ls : List AuditLine) (l : SheetLine) → audit.bad ≡ None → StandsBehind audit ls → audit.accounts.items ≡ [] → BeginAnAudit (ls ++ lines.Sheet l ∷ []) → ⊥
-refused_unaccounted audit ls l none s is = not_in_current audit ls l none s (λ h begun. no_snoc h.done h.account (sym is ∙ h.accounts_are))
-
--- a line that cannot follow in the current sheet
-pub refused_misplaced : (audit : Audit) (ls : List AuditLine) (l : SheetLine) (rest : List Account) (popped : Account) (rerun : Rerun) → audit.bad ≡ None → StandsBehind audit ls
-    → audit.accounts.items ≡ rest ++ popped ∷ [] → audit.rerun ≡ Some rerun → WhereSheetStands rerun popped (λ me n first own steps. BeginASheet (own ++ l ∷ []) → ⊥)
-    → BeginAnAudit (ls ++ lines.Sheet l ∷ []) → ⊥
-refused_misplaced audit ls l rest popped rerun none s popped_is rerun_is refused =
-    not_in_current audit ls l none s (λ h.
-    let stands = here audit.n audit.rerun audit.accounts.items rest popped rerun ls l popped_is rerun_is h in
-    no_line (ls ++ lines.Sheet l ∷ []) h.before h.me (h.own ++ l ∷ []) (lines_more ls h.before h.me h.own l h.lines_are)
-    (refused h.me audit.n (length h.before + 2) h.own h.steps stands))
-
--- the log of the current sheet is bad
-pub takes_bad_log : (old new : Audit) (ls : List AuditLine) (l : SheetLine) (rest : List Account) (popped : Account) (rerun : Rerun) (bad : BadLog) → old.bad ≡ None → new.n ≡ old.n → new.bad ≡ Some bad
-    → old.accounts.items ≡ rest ++ popped ∷ [] → old.rerun ≡ Some rerun → WhereSheetStands rerun popped (λ me n first own steps. (l ≡ Open) × HasBadLog me n own bad.entry bad.why)
-    → TakesBehind ls old (lines.Sheet l) new
-unfolding TakesBehind
-takes_bad_log old new ls l rest popped rerun bad none n_is bad_is popped_is rerun_is refused = λ p s next.
-    let h = sheet_at_hand old ls l p s none next in
-    let stands = here old.n old.rerun old.accounts.items rest popped rerun ls l popped_is rerun_is h in
-    let why = refused h.me old.n (length h.before + 2) h.own h.steps stands in
-    subst (λ (o : Option BadLog). IsKnown new.n o p new.rerun new.accounts.items (ls ++ lines.Sheet l ∷ [])) (sym bad_is)
-    (subst (λ (k : ℕ). HoldBadLog k (ls ++ lines.Sheet l ∷ []) bad.entry bad.why) (sym n_is)
-    (bad_log_here old.n old.rerun old.accounts.items rest popped rerun ls l popped_is rerun_is h bad.entry bad.why why.0 why.1))
-
--- a line that names a node
-pub takes_node : (old new : Audit) (ls : List AuditLine) (me : ℕ) → old.bad ≡ None → new.bad ≡ old.bad
-    → (AllDone old.n old.accounts.items ls → AtHand new.n new.rerun new.accounts.items (ls ++ lines.Node me ∷ [])) → TakesBehind ls old (lines.Node me) new
-unfolding TakesBehind
-takes_node old new ls me none same begun = λ p s next.
-    subst (λ (o : Option BadLog). IsKnown new.n o p new.rerun new.accounts.items (ls ++ lines.Node me ∷ [])) (sym (same ∙ none))
-    (go p old.progress next (begun (all_done old ls me p s none next)))
-  where
-    apart : Some Finding ≡ Some Before → ⊥
-    apart e = cc
-
-    go : (p q : Progress) → follows q (lines.Node me) ≡ Some p → AtHand new.n new.rerun new.accounts.items (ls ++ lines.Node me ∷ [])
-        → Replayed new.n p new.rerun new.accounts.items (ls ++ lines.Node me ∷ [])
-    go Finding q e h = h
-    go Running q e h = h
-    go Before Before e h = absurd (apart e)
-    go Before Finding e h = absurd (none-some Before e)
-    go Before Running e h = absurd (apart e)
-
--- the audit behind the line
-pub stands_more : (old new : Audit) (ls : List AuditLine) (l : AuditLine) (p : Progress) → StandsBehind old ls → follows old.progress l ≡ Some p → new.progress ≡ p
-    → IsKnown new.n new.bad p new.rerun new.accounts.items (ls ++ l ∷ []) → BeginAnAudit (ls ++ l ∷ []) × StandsBehind new (ls ++ l ∷ [])
-stands_more old new ls l p s next is known =
-    let leads : progress_after Before (ls ++ l ∷ []) ≡ Some p = progress_more Before old.progress ls l s.leads ∙ next in (
-      leads_begin (ls ++ l ∷ []) p leads,
-      record {
-        leads = leads ∙ ap (λ (q : Progress). Some q) (sym is);
-        known = subst (λ (q : Progress). IsKnown new.n new.bad q new.rerun new.accounts.items (ls ++ l ∷ [])) (sym is) known;
-      },
-    )
-
-pub known_of : (old new : Audit) (ls : List AuditLine) (l : AuditLine) (p : Progress) → TakesBehind ls old l new → StandsBehind old ls → follows old.progress l ≡ Some p
-    → IsKnown new.n new.bad p new.rerun new.accounts.items (ls ++ l ∷ [])
-unfolding TakesBehind
-known_of old new ls l p takes s next = takes p s next
+-- a line that was taken begins an audit with those before it
+pub taken : (n : ℕ) (stage : Stage) (ls : List AuditLine) (l : AuditLine) → StageStands n stage (ls ++ l ∷ []) → BeginAnAudit (ls ++ l ∷ []) × StageStands n stage (ls ++ l ∷ [])
+taken n stage ls l s = (leads_begin (ls ++ l ∷ []) (progress_of stage) s.leads, s)
 
 -- ---- the end
 
--- before the `open` of the last sheet the lines are no audit
-pub unfinished : (audit : Audit) (ls : List AuditLine) → StandsBehind audit ls → audit.progress ≢ Running → IsAnAudit ls → ⊥
-unfinished audit ls s other whole = other (same_Some audit.progress Running (sym s.leads ∙ whole_runs ls whole))
+pub not_begun : (n : ℕ) (ls : List AuditLine) → StageStands n stages.Before ls → IsAnAudit ls → ⊥
+not_begun n ls s = unfinished ls Before s.leads apart
+  where
+    apart : Before ≢ Running
+    apart e = cc
 
-pub whole : (audit : Audit) (ls : List AuditLine) → StandsBehind audit ls → audit.progress ≡ Running → IsAnAudit ls
-whole audit ls s runs = running_is_whole ls (s.leads ∙ ap (λ (p : Progress). Some p) runs)
+pub not_whole_bad : (n : ℕ) (ls : List AuditLine) (bad : BadLog) (p : Progress) → StageStands n (stages.Refusing bad p) ls → p ≢ Running → IsAnAudit ls → ⊥
+not_whole_bad n ls bad p s other = unfinished ls p s.leads other
 
-pub bad_end : (audit : Audit) (ls : List AuditLine) (bad : BadLog) → StandsBehind audit ls → audit.progress ≡ Running → audit.bad ≡ Some bad → IsAnAudit ls × HoldBadLog audit.n ls bad.entry bad.why
-bad_end audit ls bad s runs is =
-    (whole audit ls s runs, subst (λ (o : Option BadLog). IsKnown audit.n o audit.progress audit.rerun audit.accounts.items ls) is s.known)
+pub whole_bad : (n : ℕ) (ls : List AuditLine) (bad : BadLog) → StageStands n (stages.Refusing bad Running) ls → IsAnAudit ls × HoldBadLog n ls bad.entry bad.why
+whole_bad n ls bad s = (running_is_whole ls s.leads, s.known)
 
 are_sound : (n : ℕ) (accounts : List Account) (sheets : List Sheet) → AccountsStand n accounts sheets → AllByRecursion (IsSound n) sheets
 are_sound n [] [] h = tt
@@ -425,27 +405,23 @@ safe_where : AgreeingSheetsAreSafe → (n : ℕ) (sheets : List Sheet) (verdict 
 safe_where law n sheets (Verdict.List i p) sound is = tt
 safe_where law n sheets (Verdict.Stranger p) sound is = tt
 safe_where law n sheets (Verdict.Dropped i line) sound is = tt
-safe_where law n sheets (Verdict.Agree places) sound is = law n sheets sound is.0
+safe_where law n sheets (Verdict.Agree count) sound is = law n sheets sound is.0
 
-pub concludes : AgreeingSheetsAreSafe → (audit : Audit) (ls : List AuditLine) (verdict : Verdict) (before after : List ℕ) → StandsBehind audit ls → audit.progress ≡ Running → audit.bad ≡ None
-    → ((n : ℕ) (sheets : List Sheet) → AccountsStand n audit.accounts.items sheets → IsVerdict n sheets verdict) → after ≡ before ++ verdict_text verdict → EndsWith audit.n ls before after
-concludes law audit ls verdict before after s runs none judged added =
-    let leads : progress_after Before ls ≡ Some Running = s.leads ∙ ap (λ (p : Progress). Some p) runs in
-    let known : IsKnown audit.n None Running audit.rerun audit.accounts.items ls =
-    subst (λ (p : Progress). IsKnown audit.n None p audit.rerun audit.accounts.items ls) runs
-    (subst (λ (o : Option BadLog). IsKnown audit.n o audit.progress audit.rerun audit.accounts.items ls) none s.known) in
-    let d = done_at_hand audit.n audit.rerun audit.accounts.items ls known leads in
-    let is = judged audit.n d.sheets d.stand in
+pub concludes : AgreeingSheetsAreSafe → (n : ℕ) (accounts : List Account) (ls : List AuditLine) (verdict : Verdict) (before after : List ℕ)
+    → AllDone n accounts ls → IsAnAudit ls → ((sheets : List Sheet) → AccountsStand n accounts sheets → IsVerdict n sheets verdict)
+    → ((sheets : List Sheet) → AccountsStand n accounts sheets → after ≡ before ++ verdict_text (places_of (one_list n sheets)) verdict) → EndsWith n ls before after
+concludes law n accounts ls verdict before after d whole judged added =
+    let is = judged d.sheets d.stand in
     record {
-      text = verdict_text verdict;
-      added = added;
-      whole = whole audit ls s runs;
+      text = verdict_text (places_of (one_list n d.sheets)) verdict;
+      added = added d.sheets d.stand;
+      whole = whole;
       audited = record {
         sheets = d.sheets;
         are = d.are;
         verdict = verdict;
         is = is;
-        safe = safe_where law audit.n d.sheets verdict (are_sound audit.n audit.accounts.items d.sheets d.stand) is;
+        safe = safe_where law n d.sheets verdict (are_sound n accounts d.sheets d.stand) is;
         text_is = refl;
       };
     }

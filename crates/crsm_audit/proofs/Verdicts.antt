@@ -78,12 +78,12 @@ longer_spelt best es =
     go false = refl
 
 folds : (n : ℕ) (accounts : List Account) (sheets : List Sheet) (best : List Entry) → AccountsStand n accounts sheets
-    → fold (λ (b : List (List ℕ)) (a : Account). longer b a.list) (spelt best) accounts ≡ spelt (fold longer_list best (map (list_of n) sheets))
+    → fold (λ (b : List (List ℕ)) (a : Account). longer b a.entries.list) (spelt best) accounts ≡ spelt (fold longer_list best (map (list_of n) sheets))
 folds n [] [] best h = refl
 folds n [] (s ∷ sheets) best h = absurd h
 folds n (a ∷ accounts) [] best h = absurd h
 folds n (a ∷ accounts) (s ∷ sheets) best h =
-    ap (λ (z : List (List ℕ)). fold (λ (b : List (List ℕ)) (a : Account). longer b a.list) z accounts) (ap (longer (spelt best)) h.0.list ∙ longer_spelt best (list_of n s))
+    ap (λ (z : List (List ℕ)). fold (λ (b : List (List ℕ)) (a : Account). longer b a.entries.list) z accounts) (ap (longer (spelt best)) h.0.list ∙ longer_spelt best (list_of n s))
     ∙ folds n accounts sheets (longer_list best (list_of n s)) h.1
 
 -- the longest list of the accounts is the one list
@@ -194,10 +194,10 @@ module _ (law : OneSpelling SpeltEntry) where
       ap (λ z. z ∷ take p xs) same ∙ ap (λ l. y ∷ l) (same_prefix xs ys p f.1 g.1 (omega (arith, le)) (λ q lt. h (suc q) (omega (arith, lt))))
 
   module _ (n : ℕ) (accounts : List Account) (sheets : List Sheet) (stand : AccountsStand n accounts sheets) (one : List (List ℕ)) (one_is : one ≡ spelt (one_list n sheets)) where
-    in_one : (a : Account) (s : Sheet) → AccountStands n a s → IsWithin a.list one → IsPrefixOf (list_of n s) (one_list n sheets)
+    in_one : (a : Account) (s : Sheet) → AccountStands n a s → IsWithin a.entries.list one → IsPrefixOf (list_of n s) (one_list n sheets)
     in_one a s h w =
         within_prefix (list_of n s) (one_list n sheets) (fits_of n s h.sound) (one_fits n accounts sheets stand)
-        (subst (λ l. IsWithin l (spelt (one_list n sheets))) h.list (subst (IsWithin a.list) one_is w))
+        (subst (λ l. IsWithin l (spelt (one_list n sheets))) h.list (subst (IsWithin a.entries.list) one_is w))
 
     pub odd_sheet : (i p : ℕ) → IsOdd accounts one i p → sheets_are.IsOddList n sheets i p
     odd_sheet i p odd =

@@ -51,8 +51,8 @@ spelt es = map entry_bytes es
 -- The account is that of the sheet, which is one of a cluster that began with n replicas.
 pub record AccountStands (n : ℕ) (a : Account) (s : Sheet) : Type 0 where
   pub me : a.me ≡ s.me
-  pub list : a.list ≡ spelt (list_of n s)
-  pub held : a.held ≡ spelt (own_logged s.me (last_log n s))
+  pub list : a.entries.list ≡ spelt (list_of n s)
+  pub held : a.entries.held ≡ spelt (own_logged s.me (last_log n s))
   pub dropped : a.dropped.items ≡ dropped_from s.opened (steps_of n s)
   pub sound : IsSound n s
 

@@ -1,15 +1,14 @@
 -- The effect of an audit on the lines of an input.
-use Rattle.std.specs.Prelude.{◌≡◌, List, [], ◌∷◌, ◌++◌, ℕ, Some, map}
+use Rattle.std.specs.Prelude.{◌≡◌, List, [], ◌∷◌, ◌++◌, ℕ, map}
 use Rattle.std.specs.List.{AllByRecursion}
 use Rattle.crsm_port_lines.specs.Handling.{Handling, Text}
 use Rattle.crsm_port_lines.specs.declared.Stop.{Stop}
 use Rattle.crsm_cmd_replay_node.specs.declared.cause.SheetCause.{SheetCause}
-use Rattle.crsm_audit.specs.Lines.{BeginAnAudit, FitsLine, IsAnAudit, line_text, progress_after}
+use Rattle.crsm_audit.specs.Lines.{BeginAnAudit, FitsLine, IsAnAudit, line_text}
 use Rattle.crsm_audit.specs.Sheets.{HoldBadLog, IsAudited}
-use Rattle.crsm_audit.specs.State.{IsKnown}
+use Rattle.crsm_audit.specs.State.{StageStands}
 use Rattle.crsm_audit.specs.declared.state.Audit.{Audit}
 use Rattle.crsm_audit.specs.declared.line.AuditLine.{AuditLine}
-use Rattle.crsm_audit.specs.declared.line.Progress.TheVariants.{Before}
 
 -- the texts are those of lines with which an audit begins
 pub record Spells (texts : List Text) : Type 0 where
@@ -19,9 +18,8 @@ pub record Spells (texts : List Text) : Type 0 where
   pub begin : BeginAnAudit lines
 
 -- the audit stands for these lines
-pub record StandsBehind (audit : Audit) (ls : List AuditLine) : Type 0 where
-  pub leads : progress_after Before ls ≡ Some audit.progress
-  pub known : IsKnown audit.n audit.bad audit.progress audit.rerun audit.accounts.items ls
+abbrev pub StandsBehind : Audit → List AuditLine → Type 0
+StandsBehind audit ls = StageStands audit.n audit.stage ls
 
 -- it has handled the texts, and nothing is written before the end
 pub record HasHandled (n : ℕ) (audit : Audit) (texts : List Text) (shown : Text) : Type 0 where

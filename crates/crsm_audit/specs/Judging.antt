@@ -1,5 +1,5 @@
 -- The searches in accounts.
-use Rattle.std.specs.Prelude.{◌≡◌, ◌≢◌, ℕ, ◌<◌, List, Some, None, MatchOption, get_or, slice_get}
+use Rattle.std.specs.Prelude.{◌≡◌, ◌≢◌, ℕ, ◌<◌, List, Option, Some, None, MatchOption, get_or, slice_get}
 use Rattle.crsm_audit.specs.declared.account.Account.{Account}
 use Rattle.crsm_audit.specs.declared.origins.Origins.{Origins}
 use Rattle.crsm_audit.specs.declared.place.Dropped.{Dropped}
@@ -12,12 +12,12 @@ use Rattle.crsm_audit.specs.Lists.{Differs, IsWithin}
 pub record IsOdd (accounts : List Account) (one : List (List ℕ)) (i p : ℕ) : Type 0 where
   pub account : Account
   pub there : slice_get accounts i ≡ Some account
-  pub differs : Differs account.list one p
-  pub before : (j : ℕ) (a : Account) → j < i → slice_get accounts j ≡ Some a → IsWithin a.list one
+  pub differs : Differs account.entries.list one p
+  pub before : (j : ℕ) (a : Account) → j < i → slice_get accounts j ≡ Some a → IsWithin a.entries.list one
 
 -- each list is within the one list
 abbrev pub AreWithin : List Account → List (List ℕ) → Type 0
-AreWithin accounts one = (j : ℕ) (a : Account) → slice_get accounts j ≡ Some a → IsWithin a.list one
+AreWithin accounts one = (j : ℕ) (a : Account) → slice_get accounts j ≡ Some a → IsWithin a.entries.list one
 
 -- ---- origins
 
@@ -40,7 +40,7 @@ OriginsStand accounts o = (k : ℕ) → k < 15 → MatchOption (get_or o.last k 
 pub record HasNever (accounts : List Account) (k : ℕ) (bytes : List ℕ) : Type 0 where
   pub i : ℕ
   pub last : IsLast accounts k i
-  pub never : (p : ℕ) → slice_get last.account.held p ≢ Some bytes
+  pub never : (p : ℕ) → slice_get last.account.entries.held p ≢ Some bytes
 
 -- the same of what the one list has at this place
 pub record HasNeverAt (accounts : List Account) (one : List (List ℕ)) (k p : ℕ) : Type 0 where
@@ -58,6 +58,10 @@ pub record StrangeAt (accounts : List Account) (one : List (List ℕ)) (places :
 pub record IsFirstStrange (accounts : List Account) (one : List (List ℕ)) (places : List ExecutedEntry) (p : ℕ) : Type 0 where
   pub strange : StrangeAt accounts one places p
   pub before : (q : ℕ) → q < p → StrangeAt accounts one places q → ⊥
+
+-- the index is that of the first strange entry, or there is none
+abbrev pub IsStranger : List Account → List (List ℕ) → List ExecutedEntry → Option ℕ → Type 0
+IsStranger accounts one places found = MatchOption found ((p : ℕ) → StrangeAt accounts one places p → ⊥) (IsFirstStrange accounts one places)
 
 -- ---- dropped commands
 
@@ -82,6 +86,10 @@ pub record IsFirstNamed (places : List ExecutedEntry) (dropped : List Dropped) (
   pub named : IsNamed places name
   pub before : (q : ℕ) (d : Dropped) → q < k → slice_get dropped q ≡ Some d → IsNamed places d → ⊥
 
+-- the line is that of the first that is named, or none is
+abbrev pub NamesFirst : List ExecutedEntry → List Dropped → Option ℕ → Type 0
+NamesFirst places dropped found = MatchOption found (NoneNamed places dropped) (IsFirstNamed places dropped)
+
 -- this account is the first with one that is named, and this is its line
 pub record IsFirstDropped (accounts : List Account) (places : List ExecutedEntry) (i line : ℕ) : Type 0 where
   pub account : Account
@@ -92,3 +100,7 @@ pub record IsFirstDropped (accounts : List Account) (places : List ExecutedEntry
 -- no account has one
 abbrev pub NoneDropped : List Account → List ExecutedEntry → Type 0
 NoneDropped accounts places = (j : ℕ) (a : Account) → slice_get accounts j ≡ Some a → NoneNamed places a.dropped.items
+
+-- the account and the line are the first, or no account has one
+abbrev pub DropsFirst : List Account → List ExecutedEntry → Option (ℕ × ℕ) → Type 0
+DropsFirst accounts places found = MatchOption found (NoneDropped accounts places) (λ first. IsFirstDropped accounts places first.0 first.1)

@@ -1,3 +1,4 @@
+pub mod Entries
 pub mod Accounts
 pub mod Lists
 pub mod Judging

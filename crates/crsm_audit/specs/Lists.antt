@@ -1,6 +1,9 @@
 -- Lists of encoded entries, and their identities.
 use Rattle.std.specs.Prelude.{◌≡◌, ◌≢◌, ◌⊎◌, ℕ, ◌<◌, ◌≤◌, nat_lt, if◌then◌else◌, List, [], fold, length, map, Some, slice_get}
+use Rattle.std.specs.List.{AllByRecursion}
+use Rattle.crsm_base.specs.Spelling.{FitsEntry}
 use Rattle.crsm_spec.specs.Types.{Stamp, Entry}
+use Rattle.crsm_audit.specs.Accounts.{spelt}
 use Rattle.crsm_audit.specs.declared.account.Account.{Account}
 use Rattle.crsm_audit.specs.declared.place.Dropped.{Dropped}
 use Rattle.crsm_audit.specs.declared.place.ExecutedEntry.{ExecutedEntry}
@@ -11,7 +14,7 @@ longer best other = if nat_lt (length best) (length other) then other else best
 
 -- the longest list of accounts, the first among equals
 unfoldable pub longest_of : List Account → List (List ℕ)
-longest_of accounts = fold (λ best a. longer best a.list) [] accounts
+longest_of accounts = fold (λ best a. longer best a.entries.list) [] accounts
 
 -- the list has this element at this place, and the other list has it not there; before it each element is the other's
 pub record Differs {A : Type 0} (list one : List A) (p : ℕ) : Type 0 where
@@ -31,6 +34,10 @@ place_of e = record { epoch = e.epoch; stamp = e.stamp; client = e.command.clien
 -- of these entries
 abbrev pub places_of : List Entry → List ExecutedEntry
 places_of es = map place_of es
+
+-- for the names of entries that have these encodings
+abbrev pub WhereNamed : List (List ℕ) → (List ExecutedEntry → Type 0) → Type 0
+WhereNamed list P = (es : List Entry) → AllByRecursion FitsEntry es → list ≡ spelt es → P (places_of es)
 
 -- ---- names
 

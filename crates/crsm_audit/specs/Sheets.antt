@@ -2,13 +2,14 @@
 use Rattle.std.specs.Prelude.{◌≡◌, ℕ, ◌+◌, List, [], ◌∷◌, ◌++◌, length, map}
 use Rattle.crsm_ledger.specs.Recovered.{IsBadAt}
 use Rattle.crsm_law_sheets.specs.Laws.{AreSafe}
-use Rattle.crsm_law_sheets.specs.Sheets.{Sheet}
+use Rattle.crsm_law_sheets.specs.Sheets.{Sheet, one_list}
 use Rattle.crsm_replica_rerun.specs.Sheets.{IsSheet}
 use Rattle.crsm_text_sheet.specs.declared.line.SheetLine.{SheetLine}
 use Rattle.crsm_text_sheet.specs.declared.line.SheetLine.TheVariants.{Open}
 use Rattle.crsm_text_sheet.specs.Sheets.{entry_line}
 use Rattle.crsm_audit.specs.Verdict.{IsVerdict}
 use Rattle.crsm_audit.specs.declared.verdict.Verdict.{Verdict}
+use Rattle.crsm_audit.specs.Lists.{places_of}
 use Rattle.crsm_audit.specs.Texts.{verdict_text}
 use Rattle.crsm_audit.specs.declared.line.AuditLine.{AuditLine}
 use Rattle.crsm_audit.specs.declared.line.AuditLine.TheVariants as lines
@@ -52,17 +53,18 @@ AreSheetsOf n (node ∷ nodes) [] = ⊥
 
 -- where the verdict is that the sheets agree
 abbrev pub WhereAgreed : Verdict → Type 0 → Type 0
-WhereAgreed (Verdict.Agree places) P = P
+WhereAgreed (Verdict.Agree count) P = P
 WhereAgreed _ P = Unit {0}
 
--- The text is that of the verdict on the sheets, each of which is replayed. Sheets that agree are safe.
+-- The text is that of the verdict on the sheets, each of which is replayed, and names the entries of their one list where
+-- they agree. Sheets that agree are safe.
 pub record IsAudited (n : ℕ) (ls : List AuditLine) (text : List ℕ) : Type 0 where
   pub sheets : List Sheet
   pub are : AreSheetsOf n (sheets_in ls) sheets
   pub verdict : Verdict
   pub is : IsVerdict n sheets verdict
   pub safe : WhereAgreed verdict (AreSafe n sheets)
-  pub text_is : text ≡ verdict_text verdict
+  pub text_is : text ≡ verdict_text (places_of (one_list n sheets)) verdict
 
 -- The log of a sheet is bad, those of the sheets before it are not: this body is the first bad one, for this reason.
 pub record HoldBadLog (n : ℕ) (ls : List AuditLine) (entry why : ℕ) : Type 0 where

@@ -1,9 +1,11 @@
 -- What an audit in memory stands for.
-use Rattle.std.specs.Prelude.{◌≡◌, ℕ, ◌+◌, ◌-◌, List, [], ◌∷◌, ◌++◌, Option, Some, None, length, map}
+use Rattle.std.specs.Prelude.{◌≡◌, ℕ, ◌+◌, ◌-◌, List, [], ◌∷◌, ◌++◌, Some, length, map}
 use Rattle.crsm_ledger.specs.Recovered.{AreKept}
 use Rattle.crsm_law_sheets.specs.Sheets.{Sheet, log_after}
 use Rattle.crsm_fact_log.specs.Logs.{AllFit, AreSpelt}
 use Rattle.crsm_replica_rerun.specs.declared.rerun.Rerun.{Rerun}
+use Rattle.crsm_replica_rerun.specs.declared.stage.SheetStage.{SheetStage}
+use Rattle.crsm_replica_rerun.specs.declared.stage.SheetStage.TheVariants as sheet_stages
 use Rattle.crsm_replica_rerun.specs.Replaying.{RerunStands}
 use Rattle.crsm_text_sheet.specs.declared.line.SheetLine.{SheetLine}
 use Rattle.crsm_text_sheet.specs.Sheets.{entry_line}
@@ -12,7 +14,10 @@ use Rattle.crsm_spec.specs.Log.{Log, executed}
 use Rattle.crsm_audit.specs.Accounts.{AccountsStand, dropped_from, own_logged, spelt}
 use Rattle.crsm_audit.specs.declared.account.Account.{Account}
 use Rattle.crsm_audit.specs.Sheets.{AreSheetsOf, HoldBadLog, sheets_in}
-use Rattle.crsm_audit.specs.declared.state.BadLog.{BadLog}
+use Rattle.crsm_audit.specs.Lines.{progress_after}
+use Rattle.crsm_audit.specs.declared.state.Sheets.{Sheets}
+use Rattle.crsm_audit.specs.declared.state.Stage.{Stage}
+use Rattle.crsm_audit.specs.declared.state.Stage.TheVariants as stages
 use Rattle.crsm_audit.specs.declared.line.AuditLine.{AuditLine}
 use Rattle.crsm_audit.specs.declared.line.AuditLine.TheVariants as lines
 use Rattle.crsm_audit.specs.declared.line.Progress.{Progress}
@@ -23,8 +28,8 @@ use Rattle.crsm_audit.specs.declared.line.Progress.TheVariants.{Before, Finding,
 -- The account of node me has the own entries of whatever log these bodies hold, and no more.
 pub record FoundAccount (me n : ℕ) (bodies : List (List ℕ)) (a : Account) : Type 0 where
   pub me_is : a.me ≡ me
-  pub list : a.list ≡ []
-  pub held : (log : Log) → AreKept me n [] bodies log → a.held ≡ spelt (own_logged me log)
+  pub list : a.entries.list ≡ []
+  pub held : (log : Log) → AreKept me n [] bodies log → a.entries.held ≡ spelt (own_logged me log)
   pub dropped : a.dropped.items ≡ []
 
 -- the log that steps leave
@@ -35,8 +40,8 @@ left_by steps = log_after [] steps
 -- number.
 pub record StepsAccount (me n opened : ℕ) (steps : List Draft) (a : Account) : Type 0 where
   pub me_is : a.me ≡ me
-  pub list : a.list ≡ spelt (executed (left_by steps))
-  pub held : a.held ≡ spelt (own_logged me (left_by steps))
+  pub list : a.entries.list ≡ spelt (executed (left_by steps))
+  pub held : a.entries.held ≡ spelt (own_logged me (left_by steps))
   pub dropped : a.dropped.items ≡ dropped_from opened steps
   pub fit : AllFit me n (left_by steps)
   pub are_spelt : AreSpelt (left_by steps)
@@ -64,7 +69,7 @@ pub record SheetAdvances (me n first : ℕ) (rerun : Rerun) (a : Account) (own :
 -- ---- all sheets
 
 -- The lines are those of sheets with these accounts, followed by those of the current sheet.
-pub record AtHand (n : ℕ) (replay : Option Rerun) (accounts : List Account) (ls : List AuditLine) : Type 0 where
+pub record AtHand (n : ℕ) (now : Sheets) (ls : List AuditLine) : Type 0 where
   pub before : List AuditLine
   pub sheets : List Sheet
   pub are : AreSheetsOf n (sheets_in before) sheets
@@ -73,20 +78,32 @@ pub record AtHand (n : ℕ) (replay : Option Rerun) (accounts : List Account) (l
   pub me : ℕ
   pub own : List SheetLine
   pub lines_are : ls ≡ before ++ lines.Node me ∷ map lines.Sheet own
-  pub rerun : Rerun
-  pub rerun_is : replay ≡ Some rerun
   pub account : Account
-  pub accounts_are : accounts ≡ done ++ account ∷ []
+  pub accounts_are : now.accounts.items ≡ done ++ account ∷ []
   pub steps : List Draft
-  pub stands : SheetStands me n (length before + 2) rerun account own steps
+  pub stands : SheetStands me n (length before + 2) now.rerun account own steps
 
--- no line was read, or a sheet is current
-abbrev pub Replayed : ℕ → Progress → Option Rerun → List Account → List AuditLine → Type 0
-Replayed n Before replay accounts ls = (ls ≡ []) × (accounts ≡ [])
-Replayed n Finding replay accounts ls = AtHand n replay accounts ls
-Replayed n Running replay accounts ls = AtHand n replay accounts ls
+-- for the lines of which the current sheet is one
+abbrev pub WhereAtHand : Sheets → (ℕ → List AuditLine → Type 0) → Type 0
+WhereAtHand now P = (n : ℕ) (ls : List AuditLine) → AtHand n now ls → P n ls
+
+-- the progress of the current sheet
+abbrev pub progress_at : SheetStage → Progress
+progress_at (sheet_stages.Finding bodies) = Finding
+progress_at _ = Running
+
+abbrev pub progress_of : Stage → Progress
+progress_of stages.Before = Before
+progress_of (stages.Replaying now) = progress_at now.rerun.stage
+progress_of (stages.Refusing bad progress) = progress
 
 -- the known facts of the lines: all sheets are replayed, or one has a bad log
-abbrev pub IsKnown : ℕ → Option BadLog → Progress → Option Rerun → List Account → List AuditLine → Type 0
-IsKnown n None progress replay accounts ls = Replayed n progress replay accounts ls
-IsKnown n (Some bad) progress replay accounts ls = HoldBadLog n ls bad.entry bad.why
+abbrev pub IsKnown : ℕ → Stage → List AuditLine → Type 0
+IsKnown n stages.Before ls = ls ≡ []
+IsKnown n (stages.Replaying now) ls = AtHand n now ls
+IsKnown n (stages.Refusing bad progress) ls = HoldBadLog n ls bad.entry bad.why
+
+-- the stage is that behind these lines
+pub record StageStands (n : ℕ) (stage : Stage) (ls : List AuditLine) : Type 0 where
+  pub leads : progress_after Before ls ≡ Some (progress_of stage)
+  pub known : IsKnown n stage ls

@@ -1,5 +1,5 @@
 -- The text of a verdict.
-use Rattle.std.specs.Prelude.{ℕ, ◌+◌, List, [], ◌∷◌, ◌++◌, codes, length}
+use Rattle.std.specs.Prelude.{ℕ, ◌+◌, List, [], ◌∷◌, ◌++◌, codes}
 use Rattle.crsm_text.specs.Words.{named}
 use Rattle.crsm_audit.specs.declared.place.ExecutedEntry.{ExecutedEntry}
 use Rattle.crsm_audit.specs.declared.verdict.Verdict.{Verdict}
@@ -17,8 +17,9 @@ unfoldable pub places_text : ℕ → List ExecutedEntry → List ℕ
 places_text at [] = []
 places_text at (p ∷ places) = place_text at p ++ places_text (at + 1) places
 
-unfoldable pub verdict_text : Verdict → List ℕ
-verdict_text (Verdict.List sheet place) = row (codes "list") (sheet ∷ place ∷ [])
-verdict_text (Verdict.Stranger place) = row (codes "stranger") (place ∷ [])
-verdict_text (Verdict.Dropped sheet line) = row (codes "dropped") (sheet ∷ line ∷ [])
-verdict_text (Verdict.Agree places) = places_text 0 places.items ++ row (codes "agree") (length places.items ∷ [])
+-- the text of a verdict on sheets whose longest list has these entries
+unfoldable pub verdict_text : List ExecutedEntry → Verdict → List ℕ
+verdict_text places (Verdict.List sheet place) = row (codes "list") (sheet ∷ place ∷ [])
+verdict_text places (Verdict.Stranger place) = row (codes "stranger") (place ∷ [])
+verdict_text places (Verdict.Dropped sheet line) = row (codes "dropped") (sheet ∷ line ∷ [])
+verdict_text places (Verdict.Agree count) = places_text 0 places ++ row (codes "agree") (count ∷ [])

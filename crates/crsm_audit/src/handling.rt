@@ -1,23 +1,24 @@
 //! The lines of an audit: each sheet is replayed, and has an account.
 
-ghost use Rattle.std.specs.Prelude.{◌≡◌, ◌<◌, ◌≤◌, ◌+◌, ◌++◌, ◌∷◌, [], List, IfErr, IfOk, MatchOption, OnOk, None, length};
+ghost use Rattle.std.specs.Prelude.{◌≡◌, ◌≤◌, ◌+◌, ◌++◌, ◌∷◌, ℕ, [], List, IfErr, IfOk, OnOk, length};
 ghost use Rattle.crsm_audit.specs.Handled.{StandsBehind, StopsEnd, StopsLine, StopsUnread};
-ghost use Rattle.crsm_audit.specs.Lines.{BeginAnAudit, FitsLine, line_text};
-ghost use Rattle.crsm_audit.specs.Taking.{AllDone, EndsWith, TakesBehind};
-ghost use Rattle.crsm_audit.specs.State.{AtHand};
+ghost use Rattle.crsm_audit.specs.Lines.{BeginAnAudit, FitsLine, IsAnAudit, line_text};
+ghost use Rattle.crsm_audit.specs.Taking.{AllDone, EndsWith, stage_after};
+ghost use Rattle.crsm_audit.specs.State.{StageStands};
 ghost use Rattle.crsm_audit.specs.declared.line.AuditLine.{AuditLine as Spelt};
 
+use crate::entries::AccountEntries;
+use crate::judging::longest;
 use crate::line::{AuditLine, Progress, follows, read_line};
-use crate::sheet::advance;
-use crate::state::{Audit, BadLog};
+use crate::state::{Audit, BadLog, Sheets, Stage};
 use crate::text::push_verdict;
 use crate::{Account, judge};
-use crsm_base::Bytes;
+use crsm_base::{Bytes, NoMemory};
 use crsm_cmd_replay_node::SheetCause;
 use crsm_law_sheets::agreeing_sheets_are_safe;
 use crsm_port_lines::{Handler, Stop};
-use crsm_replica_rerun::{Rerun, RerunError};
-use crsm_text_sheet::{LineError, SheetLine};
+use crsm_replica_rerun::RerunError;
+use crsm_text_sheet::LineError;
 use std::alloc::Global;
 
 /// Parses a line of an audit. `Unreadable` if it is outside the grammar.
@@ -33,15 +34,51 @@ fn line_of(alloc: Global, text: &[u8]) -> Result<AuditLine, Stop<SheetCause>>
     }
 }
 
-/// Removes and returns the last account.
-fn pop_account(accounts: &mut Vec<Account>) -> Option<Account>
-    ensures { MatchOption result (accounts.old.items ≡ []) (λ a. accounts.old.items ≡ accounts.new.items ++ a ∷ []) }
-{
-    accounts.pop()
-}
-
 /// Drops a value in its own function, which keeps its cases out of its caller's proof.
 fn discard<T: Drop>(_value: T) {}
+
+/// Takes a line where no log was bad so far, and returns the bad log if that of the current sheet is one.
+fn replayed(
+    alloc: Global,
+    n: u32,
+    sheets: &mut Sheets,
+    at: u64,
+    line: &AuditLine,
+) -> Result<Option<BadLog>, Stop<SheetCause>>
+    requires some { 1 ≤ n }
+    requires few { n ≤ 15 }
+    requires fits { FitsLine line.now }
+    ensures ok { (ls : List Spelt) → at ≡ length ls + 1 → StageStands n (Stage.Replaying sheets.old) ls
+        → IfOk result (λ bad. StageStands n (stage_after sheets.new bad) (ls ++ line.now ∷ [])) }
+    ensures err { (ls : List Spelt) → StageStands n (Stage.Replaying sheets.old) ls → IfErr result (λ stop. StopsLine ls line.now stop) }
+{
+    match line {
+        AuditLine::Node { me } => {
+            if !sheets.rerun.has_opened() {
+                return Err(Stop::Refused(SheetCause::Unreadable));
+            }
+            sheets.begin(alloc, n, at, *me)?;
+            Ok(None)
+        }
+        AuditLine::Sheet { line } => match sheets.replay(line) {
+            Ok(()) => Ok(None),
+            Err(RerunError::BadLog { entry, why }) => Ok(Some(BadLog { entry, why })),
+            Err(RerunError::Misplaced) => Err(Stop::Refused(SheetCause::Unreadable)),
+            Err(RerunError::NoMemory) => Err(Stop::NoMemory),
+        },
+    }
+}
+
+/// Appends the text of the verdict on sheets with these accounts. `NoMemory` if memory runs out.
+fn push_judged(alloc: Global, accounts: &[Account], text: &mut Bytes) -> Result<(), NoMemory>
+    ensures { (n : ℕ) (ls : List Spelt) → AllDone n accounts.now ls → IsAnAudit ls → OnOk result (EndsWith n ls text.old text.new) }
+{
+    agreeing_sheets_are_safe();
+    let verdict = judge(alloc, accounts)?;
+    let none = AccountEntries::new(alloc);
+    push_verdict(alloc, text, longest(accounts, &none), &verdict)?;
+    Ok(())
+}
 
 impl Audit {
     /// Returns the audit of a cluster that began with `n`, before the first line.
@@ -54,71 +91,7 @@ impl Audit {
         Audit {
             alloc,
             n,
-            progress: Progress::Before,
-            rerun: None,
-            accounts: Vec::new(alloc),
-            bad: None,
-        }
-    }
-
-    /// Begins the sheet of node `me` after the line with number `at`.
-    fn begin(&mut self, at: u64, me: u32) -> Result<(), Stop<SheetCause>>
-        requires { me < 15 }
-        ensures ok { (ls : List Spelt) → at ≡ length ls + 1 → AllDone self.old.n self.old.accounts.items ls
-            → OnOk result (AtHand self.new.n self.new.rerun self.new.accounts.items (ls ++ Spelt.Node me ∷ [])) }
-        ensures err { IfErr result (λ stop. stop ≡ Stop.NoMemory) }
-        ensures same { (self.new.n ≡ self.old.n) × (self.new.bad ≡ self.old.bad) }
-    {
-        if at == u64::MAX {
-            return Err(Stop::NoMemory);
-        }
-        let Ok(()) = self.accounts.push(Account::new(self.alloc, me)) else {
-            return Err(Stop::NoMemory);
-        };
-        self.rerun = Some(Rerun::new(self.alloc, me, self.n, at + 1));
-        Ok(())
-    }
-
-    /// Replays a line of the current sheet. A line is refused if no sheet has begun, or if it cannot follow in it.
-    fn replay(&mut self, line: &SheetLine) -> Result<(), Stop<SheetCause>>
-        ensures ok { self.old.bad ≡ None → (ls : List Spelt) → OnOk result (TakesBehind ls self.old (Spelt.Sheet line.now) self.new) }
-        ensures err { self.old.bad ≡ None → (ls : List Spelt) → StandsBehind self.old ls → IfErr result (λ stop. StopsLine ls (Spelt.Sheet line.now) stop) }
-        ensures n { self.new.n ≡ self.old.n }
-    {
-        let Some(rerun) = &mut self.rerun else {
-            return Err(Stop::Refused(SheetCause::Unreadable));
-        };
-        let Some(mut account) = pop_account(&mut self.accounts) else {
-            return Err(Stop::Refused(SheetCause::Unreadable));
-        };
-        let advanced = advance(rerun, &mut account, line);
-        let Ok(()) = self.accounts.push(account) else {
-            return Err(Stop::NoMemory);
-        };
-        match advanced {
-            Ok(()) => Ok(()),
-            Err(RerunError::BadLog { entry, why }) => {
-                self.bad = Some(BadLog { entry, why });
-                Ok(())
-            }
-            Err(RerunError::Misplaced) => Err(Stop::Refused(SheetCause::Unreadable)),
-            Err(RerunError::NoMemory) => Err(Stop::NoMemory),
-        }
-    }
-
-    /// Adds the line with this number, which may follow those before it.
-    fn add(&mut self, at: u64, line: &AuditLine) -> Result<(), Stop<SheetCause>>
-        requires { FitsLine line.now }
-        ensures ok { (ls : List Spelt) → at ≡ length ls + 1 → OnOk result (TakesBehind ls self.old line.now self.new) }
-        ensures err { (ls : List Spelt) → StandsBehind self.old ls → IfErr result (λ stop. StopsLine ls line.now stop) }
-        ensures n { self.new.n ≡ self.old.n }
-    {
-        let None = self.bad else {
-            return Ok(());
-        };
-        match line {
-            AuditLine::Node { me } => self.begin(at, *me),
-            AuditLine::Sheet { line } => self.replay(line),
+            stage: Stage::Before,
         }
     }
 
@@ -130,12 +103,30 @@ impl Audit {
         ensures err { (ls : List Spelt) → StandsBehind self.old ls → IfErr result (λ stop. StopsLine ls line.now stop) }
         ensures n { self.new.n ≡ self.old.n }
     {
-        let Some(progress) = follows(self.progress, line) else {
-            return Err(Stop::Refused(SheetCause::Unreadable));
-        };
-        self.add(at, line)?;
-        self.progress = progress;
-        Ok(())
+        match &mut self.stage {
+            Stage::Before => {
+                let AuditLine::Node { me } = line else {
+                    return Err(Stop::Refused(SheetCause::Unreadable));
+                };
+                let sheets = Sheets::new(self.alloc, self.n, at, *me)?;
+                self.stage = Stage::Replaying { sheets };
+                Ok(())
+            }
+            Stage::Replaying { sheets } => {
+                if let Some(bad) = replayed(self.alloc, self.n, sheets, at, line)? {
+                    let progress = Progress::Running;
+                    self.stage = Stage::Refusing { bad, progress };
+                }
+                Ok(())
+            }
+            Stage::Refusing { progress, .. } => {
+                let Some(next) = follows(*progress, line) else {
+                    return Err(Stop::Refused(SheetCause::Unreadable));
+                };
+                *progress = next;
+                Ok(())
+            }
+        }
     }
 
     /// Appends the text of the verdict, if the lines are an audit and no log is bad.
@@ -143,20 +134,23 @@ impl Audit {
         ensures ok { (ls : List Spelt) → StandsBehind self.now ls → OnOk result (EndsWith self.now.n ls text.old text.new) }
         ensures err { (ls : List Spelt) → StandsBehind self.now ls → IfErr result (λ stop. StopsEnd self.now.n ls stop) }
     {
-        match self.progress {
-            Progress::Before | Progress::Finding => {
-                return Err(Stop::Refused(SheetCause::Unreadable));
+        match &self.stage {
+            Stage::Before => Err(Stop::Refused(SheetCause::Unreadable)),
+            Stage::Replaying { sheets } => {
+                if !sheets.rerun.has_opened() {
+                    return Err(Stop::Refused(SheetCause::Unreadable));
+                }
+                push_judged(self.alloc, sheets.accounts.as_slice(), text)?;
+                Ok(())
             }
-            Progress::Running => {}
+            Stage::Refusing { bad, progress } => {
+                let Progress::Running = *progress else {
+                    return Err(Stop::Refused(SheetCause::Unreadable));
+                };
+                let (entry, why) = (bad.entry, bad.why);
+                Err(Stop::Refused(SheetCause::BadLog { entry, why }))
+            }
         }
-        if let Some(bad) = self.bad {
-            let (entry, why) = (bad.entry, bad.why);
-            return Err(Stop::Refused(SheetCause::BadLog { entry, why }));
-        }
-        agreeing_sheets_are_safe();
-        let verdict = judge(self.alloc, self.accounts.as_slice())?;
-        push_verdict(text, &verdict)?;
-        Ok(())
     }
 }
 

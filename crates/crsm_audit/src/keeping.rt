@@ -4,15 +4,18 @@ ghost use Rattle.std.specs.Prelude.{◌≡◌, ◌<◌, ◌∷◌, ◌++◌, ℕ
 ghost use Rattle.std.specs.List.{AllByRecursion};
 ghost use Rattle.crsm_base.specs.Records.{FitsRec, SpeltBody};
 ghost use Rattle.crsm_base.specs.Spelling.{FitsEntry, entry_bytes};
-ghost use Rattle.crsm_ledger.specs.Ledger.{LedgerStands};
+ghost use Rattle.crsm_ledger.specs.Ledger.{LedgerStands, executed_count};
+ghost use Rattle.crsm_replica_rerun.specs.Replaying.{IsOfSome};
 ghost use Rattle.crsm_spec.specs.Types.{Entry, Rec};
 ghost use Rattle.crsm_spec.specs.Lists.{IsPrefixOf};
 ghost use Rattle.crsm_spec.specs.Log.{Log, executed};
 ghost use Rattle.crsm_audit.specs.Accounts.{dropped_in, dropped_of, own_in, own_of, spelt};
+ghost use Rattle.crsm_audit.specs.Entries.{no_lists};
 
 use crate::account::Account;
+use crate::entries::AccountEntries;
 use crate::place::Dropped;
-use crsm_base::{Bodies, Bytes, Entry, Line, NoMemory, Rec};
+use crsm_base::{Bytes, Entry, Line, NoMemory, Rec};
 use crsm_codec::{read_recs, write_entry};
 use crsm_ledger::Ledger;
 use crsm_replica_output::Batch;
@@ -23,15 +26,13 @@ impl Account {
     pub fn new(alloc: Global, me: u32) -> Account
         requires { me < 15 }
         ensures me { result.me ≡ me }
-        ensures list { result.list ≡ [] }
-        ensures held { result.held ≡ [] }
+        ensures entries { result.entries ≡ no_lists }
         ensures dropped { result.dropped.items ≡ [] }
     {
         Account {
             alloc,
             me,
-            list: Bodies::new(alloc),
-            held: Bodies::new(alloc),
+            entries: AccountEntries::new(alloc),
             dropped: Vec::new(alloc),
         }
     }
@@ -39,9 +40,9 @@ impl Account {
     /// Adds the node's own entries in a body of the log. A body that is not a list of records is left to the replica
     /// that boots on it. `NoMemory` if memory runs out.
     pub fn find(&mut self, body: &[u8]) -> Result<(), NoMemory>
-        ensures held { (recs : List Rec) → SpeltBody recs body.now → OnOk result (self.new.held ≡ self.old.held ++ spelt (own_in self.old.me recs)) }
+        ensures held { (recs : List Rec) → SpeltBody recs body.now → OnOk result (self.new.entries.held ≡ self.old.entries.held ++ spelt (own_in self.old.me recs)) }
         ensures me { self.new.me ≡ self.old.me }
-        ensures list { self.new.list ≡ self.old.list }
+        ensures list { self.new.entries.list ≡ self.old.entries.list }
         ensures dropped { self.new.dropped.items ≡ self.old.dropped.items }
     {
         let Some(recs) = read_recs(self.alloc, body)? else {
@@ -53,11 +54,12 @@ impl Account {
     /// Adds the replica's output at the input line `at`, after which its ledger is `ledger`. `NoMemory` if memory runs
     /// out.
     pub fn take(&mut self, at: u64, batch: &Batch, ledger: &Ledger) -> Result<(), NoMemory>
-        requires { AllByRecursion FitsRec batch.now.records }
-        ensures held { OnOk result (self.new.held ≡ self.old.held ++ spelt (own_in self.old.me batch.now.records)) }
+        requires records { AllByRecursion FitsRec batch.now.records }
+        requires ledger { ∥ IsOfSome ledger.now ∥₁ }
+        ensures held { OnOk result (self.new.entries.held ≡ self.old.entries.held ++ spelt (own_in self.old.me batch.now.records)) }
         ensures dropped { OnOk result (self.new.dropped.items ≡ self.old.dropped.items ++ dropped_in at batch.now.lines) }
-        ensures list { (me n : ℕ) (log : Log) (es : List Entry) → LedgerStands me n ledger.now log → IsPrefixOf es (executed log) → self.old.list ≡ spelt es
-            → OnOk result (self.new.list ≡ spelt (executed log)) }
+        ensures list { (me n : ℕ) (log : Log) (es : List Entry) → LedgerStands me n ledger.now log → IsPrefixOf es (executed log) → self.old.entries.list ≡ spelt es
+            → OnOk result (self.new.entries.list ≡ spelt (executed log)) }
         ensures me { self.new.me ≡ self.old.me }
     {
         self.hold_all(batch.records.as_slice())?;
@@ -68,22 +70,22 @@ impl Account {
     /// Adds the entry if it is the node's own.
     fn hold_entry(&mut self, entry: &Entry) -> Result<(), NoMemory>
         requires { FitsEntry entry.now }
-        ensures held { OnOk result (self.new.held ≡ self.old.held ++ spelt (own_of self.old.me (Rec.Prepare entry.now))) }
-        ensures same { (self.new.me ≡ self.old.me) × (self.new.list ≡ self.old.list) × (self.new.dropped.items ≡ self.old.dropped.items) }
+        ensures held { OnOk result (self.new.entries.held ≡ self.old.entries.held ++ spelt (own_of self.old.me (Rec.Prepare entry.now))) }
+        ensures same { (self.new.me ≡ self.old.me) × (self.new.entries.list ≡ self.old.entries.list) × (self.new.dropped.items ≡ self.old.dropped.items) }
     {
         if entry.stamp.origin != self.me {
             return Ok(());
         }
         let mut bytes = Bytes::new(self.alloc);
         write_entry(self.alloc, entry, &mut bytes)?;
-        self.held.push(bytes.as_slice())
+        self.entries.hold(bytes.as_slice())
     }
 
     /// Adds the own entries of records.
     fn hold_all(&mut self, recs: &[Rec]) -> Result<(), NoMemory>
         requires { AllByRecursion FitsRec recs.now }
-        ensures held { OnOk result (self.new.held ≡ self.old.held ++ spelt (own_in self.old.me recs.now)) }
-        ensures same { (self.new.me ≡ self.old.me) × (self.new.list ≡ self.old.list) × (self.new.dropped.items ≡ self.old.dropped.items) }
+        ensures held { OnOk result (self.new.entries.held ≡ self.old.entries.held ++ spelt (own_in self.old.me recs.now)) }
+        ensures same { (self.new.me ≡ self.old.me) × (self.new.entries.list ≡ self.old.entries.list) × (self.new.dropped.items ≡ self.old.dropped.items) }
     {
         for rec in recs {
             self.hold(rec)?;
@@ -94,8 +96,8 @@ impl Account {
     /// Adds the own entry of a record.
     fn hold(&mut self, rec: &Rec) -> Result<(), NoMemory>
         requires { FitsRec rec.now }
-        ensures held { OnOk result (self.new.held ≡ self.old.held ++ spelt (own_of self.old.me rec.now)) }
-        ensures same { (self.new.me ≡ self.old.me) × (self.new.list ≡ self.old.list) × (self.new.dropped.items ≡ self.old.dropped.items) }
+        ensures held { OnOk result (self.new.entries.held ≡ self.old.entries.held ++ spelt (own_of self.old.me rec.now)) }
+        ensures same { (self.new.me ≡ self.old.me) × (self.new.entries.list ≡ self.old.entries.list) × (self.new.dropped.items ≡ self.old.dropped.items) }
     {
         match rec {
             Rec::Prepare { entry } => self.hold_entry(entry),
@@ -106,7 +108,7 @@ impl Account {
     /// Adds the commands that these lines report as dropped.
     fn note_dropped(&mut self, at: u64, lines: &[Line]) -> Result<(), NoMemory>
         ensures dropped { OnOk result (self.new.dropped.items ≡ self.old.dropped.items ++ dropped_in at lines.now) }
-        ensures same { (self.new.me ≡ self.old.me) × (self.new.list ≡ self.old.list) × (self.new.held ≡ self.old.held) }
+        ensures same { (self.new.me ≡ self.old.me) × (self.new.entries.list ≡ self.old.entries.list) × (self.new.entries.held ≡ self.old.entries.held) }
     {
         for line in lines {
             self.note(at, line)?;
@@ -117,7 +119,7 @@ impl Account {
     /// Adds the command that a line reports as dropped.
     fn note(&mut self, at: u64, line: &Line) -> Result<(), NoMemory>
         ensures dropped { OnOk result (self.new.dropped.items ≡ self.old.dropped.items ++ dropped_of at line.now) }
-        ensures same { (self.new.me ≡ self.old.me) × (self.new.list ≡ self.old.list) × (self.new.held ≡ self.old.held) }
+        ensures same { (self.new.me ≡ self.old.me) × (self.new.entries.list ≡ self.old.entries.list) × (self.new.entries.held ≡ self.old.entries.held) }
     {
         if let Line::ReplyDropped { epoch, stamp, .. } = line {
             let name = Dropped {
@@ -132,11 +134,12 @@ impl Account {
 
     /// Adds the entries executed since the last line.
     fn follow(&mut self, ledger: &Ledger) -> Result<(), NoMemory>
-        ensures list { (me n : ℕ) (log : Log) (es : List Entry) → LedgerStands me n ledger.now log → IsPrefixOf es (executed log) → self.old.list ≡ spelt es
-            → OnOk result (self.new.list ≡ spelt (executed log)) }
-        ensures same { (self.new.me ≡ self.old.me) × (self.new.held ≡ self.old.held) × (self.new.dropped.items ≡ self.old.dropped.items) }
+        requires { ∥ IsOfSome ledger.now ∥₁ }
+        ensures list { (me n : ℕ) (log : Log) (es : List Entry) → LedgerStands me n ledger.now log → IsPrefixOf es (executed log) → self.old.entries.list ≡ spelt es
+            → OnOk result (self.new.entries.list ≡ spelt (executed log)) }
+        ensures same { (self.new.me ≡ self.old.me) × (self.new.entries.held ≡ self.old.entries.held) × (self.new.dropped.items ≡ self.old.dropped.items) }
     {
-        for place in self.list.len() as u64..ledger.executed_len() {
+        for place in self.entries.list_len() as u64..ledger.executed_len() {
             self.add_executed(ledger, place)?;
         }
         Ok(())
@@ -144,13 +147,15 @@ impl Account {
 
     /// Adds the executed entry with this index.
     fn add_executed(&mut self, ledger: &Ledger, place: u64) -> Result<(), NoMemory>
+        requires ledger { ∥ IsOfSome ledger.now ∥₁ }
+        requires place { place < executed_count ledger.now }
         ensures list { (me n : ℕ) (log : Log) (e : Entry) → LedgerStands me n ledger.now log → slice_get (executed log) place ≡ Some e
-            → OnOk result (self.new.list ≡ self.old.list ++ entry_bytes e ∷ []) }
-        ensures same { (self.new.me ≡ self.old.me) × (self.new.held ≡ self.old.held) × (self.new.dropped.items ≡ self.old.dropped.items) }
+            → OnOk result (self.new.entries.list ≡ self.old.entries.list ++ entry_bytes e ∷ []) }
+        ensures same { (self.new.me ≡ self.old.me) × (self.new.entries.held ≡ self.old.entries.held) × (self.new.dropped.items ≡ self.old.dropped.items) }
     {
         match ledger.spelt(place) {
-            Some(bytes) => self.list.push(bytes),
-            None => Ok(()),
+            Some(bytes) => self.entries.execute(bytes),
+            None => unreachable!(),
         }
     }
 }

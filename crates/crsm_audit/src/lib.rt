@@ -4,6 +4,7 @@
 
 mod account;
 mod command;
+mod entries;
 mod handling;
 mod judging;
 mod keeping;

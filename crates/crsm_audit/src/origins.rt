@@ -1,12 +1,10 @@
 //! The entries that each node has logged, by its last sheet.
 
 ghost use Rattle.std.specs.Prelude.{◌≡◌, ◌<◌, false, IsTrue, IfSome, IfNone};
-ghost use Rattle.crsm_audit.specs.Judging.{HasNever, HasNeverAt, IsLast, IsOfNone, OriginsStand};
+ghost use Rattle.crsm_audit.specs.Judging.{HasNever, IsLast, IsOfNone, OriginsStand};
 
 use crate::account::Account;
-use crate::list::find;
-use crate::place::ExecutedEntry;
-use crsm_base::Bodies;
+use crate::list::find_held;
 
 /// The last sheet of each node, and the index from which it is searched next.
 #[derive(Drop)]
@@ -61,31 +59,12 @@ impl Origins {
         let Some(account) = accounts.get(index) else {
             return false;
         };
-        match find(&account.held, self.seen[node as usize], bytes) {
+        match find_held(&account.entries, self.seen[node as usize], bytes) {
             Some(place) => {
                 self.seen[node as usize] = place;
                 false
             }
             None => true,
-        }
-    }
-
-    /// Returns whether the node of the entry with this index has a sheet, and never logged the entry according to its
-    /// last one.
-    pub(crate) fn is_strange_at(
-        &mut self,
-        accounts: &[Account],
-        one: &Bodies,
-        at: usize,
-        place: &ExecutedEntry,
-    ) -> bool
-        ensures yes { OriginsStand accounts.now self.old → IsTrue result → HasNeverAt accounts.now one.now place.now.stamp.origin at }
-        ensures no { OriginsStand accounts.now self.old → result ≡ false → HasNeverAt accounts.now one.now place.now.stamp.origin at → ⊥ }
-        ensures stays { OriginsStand accounts.now self.old → OriginsStand accounts.now self.new }
-    {
-        match one.get(at) {
-            Some(bytes) => self.is_strange(accounts, place.stamp.origin, bytes),
-            None => false,
         }
     }
 }

@@ -1,9 +1,7 @@
 //! The verdict of an audit.
 
-use crate::place::ExecutedEntry;
-
 /// The verdict on sheets: the first of these cases that holds. Sheets and indices of entries are counted from 0.
-#[derive(Debug, Drop)]
+#[derive(Clone, Copy, Debug, PartialEq, Eq)]
 pub enum Verdict {
     /// The executed list of this sheet is not a prefix of the longest one: `place` is the first index at which they
     /// differ.
@@ -12,6 +10,6 @@ pub enum Verdict {
     Stranger { place: u64 },
     /// A reply at this line of this sheet reports a command as dropped that the longest list has.
     Dropped { sheet: u64, line: u64 },
-    /// All sheets agree with the longest list, which has these entries.
-    Agree { places: Vec<ExecutedEntry> },
+    /// All sheets agree with the longest list, which has so many entries.
+    Agree { count: u64 },
 }

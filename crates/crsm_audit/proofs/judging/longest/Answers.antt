@@ -9,5 +9,5 @@ loop-account-init c = c.requires
 
 pub loop-account-preserved : goal.loop-account-preserved
 loop-account-preserved c =
-    c.longer-best.ensures ∙ ap (λ (l : List (List ℕ)). longer l c.account-item.result.list) c.loop-account.invariant
+    c.longer-best.ensures ∙ ap (λ (l : List (List ℕ)). longer l c.account-item.result.entries.list) c.loop-account.invariant
     ∙ sym (longest_more c.args.accounts.now c.loop-account.account-index c.account-item.result c.loop-account-test.true c.account-item.is)

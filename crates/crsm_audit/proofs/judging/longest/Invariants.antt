@@ -4,4 +4,4 @@ use Rattle.crsm_audit.proofs.judging.longest.Given as goal
 
 -- it is the longest of those before
 abbrev pub invariant-loop-account : goal.invariant-loop-account
-invariant-loop-account l = l.best ≡ longest_of (take l.account-index l.accounts)
+invariant-loop-account l = l.best.list ≡ longest_of (take l.account-index l.accounts)

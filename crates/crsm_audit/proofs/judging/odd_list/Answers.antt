@@ -14,8 +14,8 @@ returns-in-Some-clause-found c = record {
 
 pub loop-index-preserved : goal.loop-index-preserved
 loop-index-preserved c =
-    below_more c.args.accounts.now (λ (j : ℕ) (a : Account). IsWithin a.list c.args.one.now) c.loop-index.index c.index-accounts-index.result c.loop-index-test.true
+    below_more c.args.accounts.now (λ (j : ℕ) (a : Account). IsWithin a.entries.list c.args.one.now.list) c.loop-index.index c.index-accounts-index.result c.loop-index-test.true
     c.index-accounts-index.is c.in_default.ensures.none c.loop-index.invariant
 
 pub returns-clause-none : goal.returns-clause-none
-returns-clause-none c = all_below c.args.accounts.now (λ (j : ℕ) (a : Account). IsWithin a.list c.args.one.now) c.loop-index.index c.loop-index-test.false c.loop-index.invariant
+returns-clause-none c = all_below c.args.accounts.now (λ (j : ℕ) (a : Account). IsWithin a.entries.list c.args.one.now.list) c.loop-index.index c.loop-index-test.false c.loop-index.invariant

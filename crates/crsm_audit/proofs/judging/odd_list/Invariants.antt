@@ -6,4 +6,4 @@ use Rattle.crsm_audit.proofs.judging.odd_list.Given as goal
 
 -- the lists before are prefixes of the one list
 abbrev pub invariant-loop-index : goal.invariant-loop-index
-invariant-loop-index l = (j : ℕ) (a : Account) → j < l.index → slice_get l.accounts j ≡ Some a → IsWithin a.list l.one
+invariant-loop-index l = (j : ℕ) (a : Account) → j < l.index → slice_get l.accounts j ≡ Some a → IsWithin a.entries.list l.one.list

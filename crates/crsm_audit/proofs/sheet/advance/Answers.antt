@@ -41,6 +41,7 @@ returns c = record {
       let t : Takes (first + length own) batch ledger before after = subst (λ (k : ℕ). Takes k batch ledger before after) (c.next_line-at.ensures ∙ s.replayed.next) here in
       let adv = c.in_ok-batch.ensures.advances me n first own steps s.replayed in
       steps_on c.executed_lists_grow.ensures c.batches_are_logged.ensures me n first before after own line c.in_default.not-Entry batch ledger t c.args.rerun.now c.feed.new.self steps s adv
-      (c.ledger.ensures me n first (own ++ line ∷ []) (steps ++ adv.more) adv.stands);
+      (c.ledger.ensures.says me n first (own ++ line ∷ []) (steps ++ adv.more) adv.stands);
+  leads = c.in_ok-batch.ensures.leads;
   err = λ me n first own steps s. tt;
 }

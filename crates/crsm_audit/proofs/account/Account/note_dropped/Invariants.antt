@@ -7,5 +7,5 @@ abbrev pub invariant-loop-line : goal.invariant-loop-line
 invariant-loop-line l =
     (l.self.dropped.items ≡ l.initial.self.dropped.items ++ dropped_in l.at (take l.line-index l.lines))
     × (l.self.me ≡ l.initial.self.me)
-    × (l.self.list ≡ l.initial.self.list)
-    × (l.self.held ≡ l.initial.self.held)
+    × (l.self.entries.list ≡ l.initial.self.entries.list)
+    × (l.self.entries.held ≡ l.initial.self.entries.held)

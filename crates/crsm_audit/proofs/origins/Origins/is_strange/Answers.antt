@@ -8,10 +8,10 @@ use Rattle.crsm_audit.proofs.Searching.{there}
 use Rattle.crsm_audit.proofs.origins.Origins.is_strange.Goals as goal
 
 strange : (accounts : List Account) (k i : ℕ) (account : Account) (bytes : List ℕ) → IsLast accounts k i → true ≡ nat_lt i (length accounts) → account ≡ get_or accounts i account
-    → ((p : ℕ) → slice_get account.held p ≢ Some bytes) → HasNever accounts k bytes
+    → ((p : ℕ) → slice_get account.entries.held p ≢ Some bytes) → HasNever accounts k bytes
 strange accounts k i account bytes l lt is never =
     let same : account ≡ l.account = same_Some account l.account (sym (there accounts i account (ltb-true i (length accounts) (sym lt)) is) ∙ l.there) in
-    record { i = i; last = l; never = λ p h. never p (subst (λ (a : Account). slice_get a.held p ≡ Some bytes) (sym same) h) }
+    record { i = i; last = l; never = λ p h. never p (subst (λ (a : Account). slice_get a.entries.held p ≡ Some bytes) (sym same) h) }
 
 pub returns-in-None-clause-yes : goal.returns-in-None-clause-yes
 returns-in-None-clause-yes c = λ stands t.

@@ -1,6 +1,5 @@
-use Rattle.std.proofs.Common.{refl}
 use Rattle.crsm_audit.proofs.Taking.{begins}
 use Rattle.crsm_audit.proofs.state.Audit.new.Goals as goal
 
 pub returns-clause-begins : goal.returns-clause-begins
-returns-clause-begins c = begins _ refl refl c.new.ensures.items
+returns-clause-begins c = begins c.args.n
