@@ -1,24 +1,59 @@
 -- Frames that wait, and datagrams of peers that are ready.
-use Rattle.std.proofs.Common.{◌≡◌, ◌∙◌, ◌<◌, ◌++◌, ℕ, zero, suc, List, [], ◌∷◌, length, map, set, refl, sym, ap, subst, arith, inl, inr, Option, Some, None, true, Vec, Global, Result, Ok, Err}
-use Rattle.std.proofs.lemmas.List.{append_assoc}
-use Rattle.std.proofs.lemmas.Bool.{true≢false}
+use Rattle.std.proofs.Common.{◌≡◌, ◌∙◌, ◌+◌, ◌-◌, ◌<◌, ◌++◌, ℕ, zero, suc, List, [], ◌∷◌, length, set, refl, sym, ap, subst, arith, inl, inr, Option, Some, None, Vec, Global, Result, Ok, Err, length-append}
+use Rattle.std.proofs.lemmas.List.{append_assoc, get_or-set_same}
+use Rattle.std.proofs.lemmas.List.Elements.{Contains-append_left, Contains-append_right}
+use Rattle.std.proofs.lemmas.List.Sums.{sum_by-cons, sum_by_push, sum_by-set}
 use Rattle.std.proofs.lemmas.Option.{none-some}
-use Rattle.std.specs.Prelude.{Contains, OnOk, is_ok, slice_index_or}
-use Rattle.crsm_base.specs.declared.memory.NoMemory.{NoMemory}
-use Rattle.crsm_port.specs.Passing.{NoMore, either}
+use Rattle.std.specs.List.{sum_by}
+use Rattle.std.specs.Prelude.{◌⊎◌, Contains, OnOk, slice_get, slice_index_or}
+use Rattle.crsm_port.specs.Passing.{Datagrams, NoMore, either}
 use Rattle.crsm_port_flow.proofs.Keepings.{push_cases, set_or_old}
-use Rattle.crsm_port_flow.specs.Early.{KeepsSome, OneMoreWaits, WaitedFrom, WaitsAs}
-use Rattle.crsm_port_flow.specs.Kept.{KeepsOnly, early_in, of_peers, packet_of, ready_in}
-use Rattle.crsm_port_flow.specs.Taken.{IsMadeReady, StaysReady}
+use Rattle.crsm_port_flow.specs.Early.{AreFrames, Expects, IsEarlyIn, KeepsSome, NoneNext, OneMoreWaits, TakesNext, Waits, WaitsAs, after, place_of}
+use Rattle.crsm_port_flow.specs.Kept.{KeepsOnly, early_in, packet_of, ready_in}
+use Rattle.crsm_port_flow.specs.Rooms.{Counts, IsOneMore, bytes_at, frames_at, size_of, sizes_of}
+use Rattle.crsm_port_flow.specs.Taken.{Is, IsMadeReady, StaysReady}
 use Rattle.crsm_port_flow.specs.declared.datagram.Datagram.{Datagram}
+use Rattle.crsm_port_flow.specs.declared.datagram.Room.{Room}
 use Rattle.crsm_port_flow.specs.declared.early.Early.{Early}
 use Rattle.crsm_port_flow.specs.declared.early.Frame.{Frame}
-use Rattle.crsm_port_flow.specs.declared.peers.FromPeers.{FromPeers}
+use Rattle.crsm_port_flow.specs.declared.early.Link.{Link}
+use Rattle.crsm_port_flow.specs.declared.heads.Head.{Head}
 
 -- ---- places
 
 pub frame_same : (f g : Frame) → Some f ≡ Some g → f ≡ g
 frame_same f g e = cc
+
+pub item_any : (xs : List (Option Frame)) (k : ℕ) (d e : Option Frame) → k < length xs → slice_index_or xs k d ≡ slice_index_or xs k e
+item_any [] k d e lt = absurd (omega (arith, lt))
+item_any (x ∷ xs) zero d e lt = refl
+item_any (x ∷ xs) (suc k) d e lt = item_any xs k d e (omega (arith, lt))
+
+pub item_is : (xs : List (Option Frame)) (k : ℕ) (x : Option Frame) → k < length xs → x ≡ slice_index_or xs k x → x ≡ slice_index_or xs k None
+item_is xs k x lt is = is ∙ item_any xs k x None lt
+
+-- what is at a place is put there again
+pub set_same : {X : Type 0} (xs : List X) (k : ℕ) (x : X) → x ≡ slice_index_or xs k x → set xs k x ≡ xs
+set_same [] k x is = refl
+set_same {X = X} (y ∷ xs) zero x is = ap (λ (z : X). z ∷ xs) is
+set_same {X = X} (y ∷ xs) (suc k) x is = ap (λ (ys : List X). y ∷ ys) (set_same xs k x is)
+
+-- a frame at a place is one of those that wait
+pub place_contains : (xs : List (Option Frame)) (k : ℕ) (f : Frame) → slice_index_or xs k None ≡ Some f → Contains xs (Some f)
+place_contains [] k f is = absurd (none-some f is)
+place_contains (x ∷ xs) zero f is = (zero, omega arith, is)
+place_contains (x ∷ xs) (suc k) f is = let w = place_contains xs k f is in (suc w.0, omega (arith, w.1), w.2)
+
+pub contains_place : (xs : List (Option Frame)) (f : Frame) → Contains xs (Some f) → (k : ℕ) × (slice_index_or xs k None ≡ Some f)
+contains_place xs f (k, lt, is) = (k, item_any xs k None (Some f) lt ∙ is)
+
+pub keeps_contains : (xs ys : List (Option Frame)) → KeepsSome xs ys → (f : Frame) → Contains ys (Some f) → Contains xs (Some f)
+keeps_contains xs ys keeps f has = let w = contains_place ys f has in place_contains xs w.0 f (keeps w.0 f w.1)
+
+pub place_within : (xs : List (Option Frame)) (k : ℕ) (f : Frame) → slice_index_or xs k None ≡ Some f → k < length xs
+place_within [] k f is = absurd (none-some f is)
+place_within (x ∷ xs) zero f is = omega arith
+place_within (x ∷ xs) (suc k) f is = omega (arith, place_within xs k f is)
 
 -- a free place is filled
 pub set_stays : (xs : List (Option Frame)) (k : ℕ) (y : Option Frame) (f : Frame) → slice_index_or xs k None ≡ None → Contains xs (Some f) → Contains (set xs k y) (Some f)
@@ -28,90 +63,204 @@ set_stays (x ∷ xs) zero y f none (suc i, lt, is) = (suc i, omega (arith, lt), 
 set_stays (x ∷ xs) (suc k) y f none (zero, lt, is) = (zero, omega arith, is)
 set_stays (x ∷ xs) (suc k) y f none (suc i, lt, is) = let w = set_stays xs k y f none (i, omega (arith, lt), is) in (suc w.0, omega (arith, w.1), w.2)
 
-pub set_has : (xs : List (Option Frame)) (k : ℕ) (y : Option Frame) → k < length xs → Contains (set xs k y) y
-set_has [] k y lt = absurd (omega (arith, lt))
-set_has (x ∷ xs) zero y lt = (zero, omega arith, refl)
-set_has (x ∷ xs) (suc k) y lt = let w = set_has xs k y (omega (arith, lt)) in (suc w.0, omega (arith, w.1), w.2)
-
-pub set_none : (xs : List (Option Frame)) (k : ℕ) → KeepsSome xs (set xs k None)
-set_none xs k f has = elim (set_or_old xs k None (Some f) has) [
-  | inl w ↦ w
-  | inr e ↦ absurd (none-some f (sym e))
-]
-
 pub set_one : (xs : List (Option Frame)) (k : ℕ) (g : Frame) → OneMoreWaits g.datagram xs (set xs k (Some g))
 set_one xs k g f has = elim (set_or_old xs k (Some g) (Some f) has) [
   | inl w ↦ inl w
   | inr e ↦ inr (ap (λ (x : Frame). x.datagram) (frame_same f g e))
 ]
 
-pub item_is : (xs : List (Option Frame)) (k : ℕ) (x : Option Frame) → k < length xs → x ≡ slice_index_or xs k x → Contains xs x
-item_is [] k x lt is = absurd (omega (arith, lt))
-item_is (z ∷ xs) zero x lt is = (zero, omega arith, sym is)
-item_is (z ∷ xs) (suc k) x lt is = let w = item_is xs k x (omega (arith, lt)) is in (suc w.0, omega (arith, w.1), w.2)
+pub set_at : (xs : List (Option Frame)) (k place : ℕ) (y : Option Frame) → k ≡ place → k < length xs → slice_index_or (set xs k y) place None ≡ y
+set_at xs k place y same lt = subst (λ (i : ℕ). slice_index_or (set xs k y) i None ≡ y) same (get_or-set_same xs k y None lt)
 
-pub item_any : (xs : List (Option Frame)) (k : ℕ) (d e : Option Frame) → k < length xs → slice_index_or xs k d ≡ slice_index_or xs k e
-item_any [] k d e lt = absurd (omega (arith, lt))
-item_any (x ∷ xs) zero d e lt = refl
-item_any (x ∷ xs) (suc k) d e lt = item_any xs k d e (omega (arith, lt))
+-- a place is emptied
+pub set_none : (xs : List (Option Frame)) (k : ℕ) → KeepsSome xs (set xs k None)
+set_none [] k i f is = is
+set_none (x ∷ xs) zero zero f is = absurd (none-some f is)
+set_none (x ∷ xs) zero (suc i) f is = is
+set_none (x ∷ xs) (suc k) zero f is = is
+set_none (x ∷ xs) (suc k) (suc i) f is = set_none xs k i f is
+
+pub set_rest : (xs : List (Option Frame)) (k : ℕ) (g : Frame) → slice_index_or xs k None ≡ Some g → (f : Frame) → Contains xs (Some f) → Contains (set xs k None) (Some f) ⊎ (f ≡ g)
+set_rest [] k g at f (i, lt, is) = absurd (omega (arith, lt))
+set_rest (x ∷ xs) zero g at f (zero, lt, is) = inr (frame_same f g (sym is ∙ at))
+set_rest (x ∷ xs) zero g at f (suc i, lt, is) = inl (suc i, omega (arith, lt), is)
+set_rest (x ∷ xs) (suc k) g at f (zero, lt, is) = inl (zero, omega arith, is)
+set_rest (x ∷ xs) (suc k) g at f (suc i, lt, is) = elim (set_rest xs k g at f (i, omega (arith, lt), is)) [
+  | inl w ↦ inl (suc w.0, omega (arith, w.1), w.2)
+  | inr e ↦ inr e
+]
 
 pub keeps_some_then : (xs ys zs : List (Option Frame)) → KeepsSome xs ys → KeepsSome ys zs → KeepsSome xs zs
-keeps_some_then xs ys zs one other f has = one f (other f has)
+keeps_some_then xs ys zs one other k f at = one k f (other k f at)
 
 pub keeps_some_same : (xs ys : List (Option Frame)) → ys ≡ xs → KeepsSome xs ys
-keeps_some_same xs ys same f has = subst (λ (zs : List (Option Frame)). Contains zs (Some f)) same has
+keeps_some_same xs ys same k f at = subst (λ (zs : List (Option Frame)). slice_index_or zs k None ≡ Some f) same at
 
 pub none_pushed : (xs ys : List (Option Frame)) → KeepsSome [] xs → ys ≡ xs ++ None ∷ [] → KeepsSome [] ys
-none_pushed xs ys before same f has = elim (push_cases (λ (x : Option Frame). x) xs None (Some f) (as_mapped (xs ++ None ∷ []) (subst (λ (zs : List (Option Frame)). Contains zs (Some f)) same has))) [
-  | inl w ↦ before f (from_mapped xs w)
-  | inr e ↦ absurd (none-some f (sym e))
-]
+none_pushed xs ys before same k f at = none_at xs before k (subst (λ (zs : List (Option Frame)). slice_index_or zs k None ≡ Some f) same at)
   where
-    as_mapped : (zs : List (Option Frame)) → Contains zs (Some f) → Contains (map (λ (x : Option Frame). x) zs) (Some f)
-    as_mapped [] (i, lt, is) = absurd (omega (arith, lt))
-    as_mapped (z ∷ zs) (zero, lt, is) = (zero, omega arith, is)
-    as_mapped (z ∷ zs) (suc i, lt, is) = let w = as_mapped zs (i, omega (arith, lt), is) in (suc w.0, omega (arith, w.1), w.2)
+    none_at : (zs : List (Option Frame)) → KeepsSome [] zs → (i : ℕ) → slice_index_or (zs ++ None ∷ []) i None ≡ Some f → None ≡ Some f
+    none_at [] keeps zero is = is
+    none_at [] keeps (suc i) is = is
+    none_at (z ∷ zs) keeps zero is = keeps zero f is
+    none_at (z ∷ zs) keeps (suc i) is = none_at zs (λ j g w. keeps (suc j) g w) i is
 
-    from_mapped : (zs : List (Option Frame)) → Contains (map (λ (x : Option Frame). x) zs) (Some f) → Contains zs (Some f)
-    from_mapped [] (i, lt, is) = absurd (omega (arith, lt))
-    from_mapped (z ∷ zs) (zero, lt, is) = (zero, omega arith, is)
-    from_mapped (z ∷ zs) (suc i, lt, is) = let w = from_mapped zs (i, omega (arith, lt), is) in (suc w.0, omega (arith, w.1), w.2)
+-- ---- how many wait, and their bytes
 
--- ---- the datagrams of peers
+pub none_sums : (f : Option Frame → ℕ) (xs : List (Option Frame)) → f None ≡ 0 → KeepsSome [] xs → sum_by f xs ≡ 0
+none_sums f [] zeroed keeps = refl
+none_sums f (None ∷ xs) zeroed keeps = omega (arith, sum_by-cons f None xs, zeroed, none_sums f xs zeroed (λ k g at. keeps (suc k) g at))
+none_sums f (Some g ∷ xs) zeroed keeps = absurd (none-some g (keeps zero g refl))
 
-pub peers_keep : (from : ℕ) (bytes : List ℕ) (p q : FromPeers) → KeepsOnly from bytes (ready_in p.ready.items) (ready_in q.ready.items) → KeepsOnly from bytes (early_in p.early.frames.items) (early_in q.early.frames.items)
-    → KeepsOnly from bytes (of_peers p) (of_peers q)
-peers_keep from bytes p q ready early a b has = elim has [
-  | inl is_ready ↦ elim (ready a b is_ready) [
-    | inl only ↦ inl only
-    | inr before ↦ inr (inl before)
+pub one_more : (xs : List (Option Frame)) (k : ℕ) (g : Frame) → k < length xs → slice_index_or xs k None ≡ None → IsOneMore g.datagram xs (set xs k (Some g))
+one_more xs k g lt none = (added frames_at refl, added bytes_at refl)
+  where
+    added : (f : Option Frame → ℕ) → f None ≡ 0 → sum_by f (set xs k (Some g)) ≡ sum_by f xs + f (Some g)
+    added f zeroed = omega (arith, sum_by-set f xs k (Some g) None lt, ap f none, zeroed)
+
+pub one_fewer : (xs : List (Option Frame)) (k : ℕ) (g : Frame) → slice_index_or xs k None ≡ Some g → IsOneMore g.datagram (set xs k None) xs
+one_fewer xs k g at = (gone frames_at refl, gone bytes_at refl)
+  where
+    gone : (f : Option Frame → ℕ) → f None ≡ 0 → sum_by f xs ≡ sum_by f (set xs k None) + f (Some g)
+    gone f zeroed = omega (arith, sum_by-set f xs k None None (place_within xs k g at), ap f at, zeroed)
+
+pub fewer_as : (d : Datagram) (g : Frame) (old new : List (Option Frame)) → g.datagram ≡ d → IsOneMore g.datagram old new → IsOneMore d old new
+fewer_as d g old new same one = subst (λ (x : Datagram). IsOneMore x old new) same one
+
+-- one that waited is taken back
+pub counts_fewer : (room room_now : Room) (d : Datagram) (old new : List (Option Frame)) (others sizes : ℕ) → IsOneMore d new old → (room_now.count ≡ room.count - 1) × (room_now.size ≡ room.size - size_of d) → Counts room others sizes old
+    → Counts room_now others sizes new
+counts_fewer room room_now d old new others sizes one back counts = (omega (arith, one.0, back.0, counts.0), omega (arith, one.1, back.1, counts.1))
+
+pub counts_same : (room : Room) (old new : List (Option Frame)) (others sizes : ℕ) → new ≡ old → Counts room others sizes old → Counts room others sizes new
+counts_same room old new others sizes same counts = subst (λ (xs : List (Option Frame)). Counts room others sizes xs) (sym same) counts
+
+-- one that waited is ready
+pub counts_moved : (room : Room) (d : Datagram) (old new : List (Option Frame)) (ready ready_now : List Datagram) → IsOneMore d new old → ready_now ≡ ready ++ d ∷ [] → Counts room (length ready) (sizes_of ready) old
+    → Counts room (length ready_now) (sizes_of ready_now) new
+counts_moved room d old new ready ready_now one more counts =
+    let long : length ready_now ≡ length ready + 1 = ap length more ∙ length-append ready (d ∷ []) in
+    let size : sizes_of ready_now ≡ sizes_of ready + size_of d = ap sizes_of more ∙ sum_by_push size_of ready d in
+    (omega (arith, long, one.0, counts.0), omega (arith, size, one.1, counts.1))
+
+-- ---- the frame that is expected next
+
+get_set : (ls : List Link) (i : ℕ) (x y : Link) → slice_get ls i ≡ Some x → slice_get (set ls i y) i ≡ Some y
+get_set [] i x y is = absurd (none-some x is)
+get_set (l ∷ ls) zero x y is = refl
+get_set (l ∷ ls) (suc i) x y is = get_set ls i x y is
+
+link_same : (l k : Link) → Some l ≡ Some k → l ≡ k
+link_same l k e = cc
+
+pub set_get : (ls : List Link) (k from : ℕ) (y : Link) → k ≡ from → k < length ls → slice_get (set ls k y) from ≡ Some y
+set_get ls k from y same lt = subst (λ (i : ℕ). slice_get (set ls k y) i ≡ Some y) same (here ls k lt)
+  where
+    here : (xs : List Link) (i : ℕ) → i < length xs → slice_get (set xs i y) i ≡ Some y
+    here [] i within = absurd (omega (arith, within))
+    here (x ∷ xs) zero within = refl
+    here (x ∷ xs) (suc i) within = here xs i (omega (arith, within))
+
+pub got_same : (ls : List Link) (k : ℕ) (l link : Link) → slice_get ls k ≡ Some l → link ≡ slice_index_or ls k link → link ≡ l
+got_same [] k l link at is = absurd (none-some l at)
+got_same (x ∷ ls) zero l link at is = is ∙ link_same x l at
+got_same (x ∷ ls) (suc k) l link at is = got_same ls k l link at is
+
+pub get_is : (ls : List Link) (k from : ℕ) (link : Link) → k ≡ from → k < length ls → link ≡ slice_index_or ls k link → slice_get ls from ≡ Some link
+get_is ls k from link same lt is = subst (λ (i : ℕ). slice_get ls i ≡ Some link) same (here ls k lt is)
+  where
+    here : (xs : List Link) (i : ℕ) → i < length xs → link ≡ slice_index_or xs i link → slice_get xs i ≡ Some link
+    here [] i within at = absurd (omega (arith, within))
+    here (x ∷ xs) zero within at = ap Some (sym at)
+    here (x ∷ xs) (suc i) within at = here xs i (omega (arith, within)) at
+
+pub got_within : (ls : List Link) (k : ℕ) (l : Link) → slice_get ls k ≡ Some l → k < length ls
+got_within [] k l at = absurd (none-some l at)
+got_within (x ∷ ls) zero l at = omega arith
+got_within (x ∷ ls) (suc k) l at = omega (arith, got_within ls k l at)
+
+pub waits_before : (from number : ℕ) (d : Datagram) (xs ys : List (Option Frame)) → KeepsSome xs ys → WaitsAs from number d ys → WaitsAs from number d xs
+waits_before from number d xs ys keeps (f, at, sender, same, is) = (f, keeps (place_of from number) f at, sender, same, is)
+
+module _ (from : ℕ) (d : Datagram) (links links_now : List Link) (frames frames_now : List (Option Frame)) (takes : TakesNext from d links links_now frames frames_now) where
+  pub takes_keeps : KeepsSome frames frames_now
+  takes_keeps k f at = let (link, _, _, _, gone) = takes in set_none frames (place_of from link.next) k f (subst (λ (xs : List (Option Frame)). slice_index_or xs k None ≡ Some f) gone at)
+
+  pub takes_was : (f : Frame) × Contains frames (Some f) × (f.datagram ≡ d)
+  takes_was = let (link, _, (f, at, _, _, is), _, _) = takes in (f, place_contains frames (place_of from link.next) f at, is)
+
+  pub takes_one : IsOneMore d frames_now frames
+  takes_one =
+      let (link, _, (f, at, _, _, is), _, gone) = takes in
+      subst (λ (xs : List (Option Frame)). IsOneMore d xs frames) (sym gone) (fewer_as d f (set frames (place_of from link.next) None) frames is (one_fewer frames (place_of from link.next) f at))
+
+  pub takes_rest : (f : Frame) → Contains frames (Some f) → Contains frames_now (Some f) ⊎ (f.datagram ≡ d)
+  takes_rest f has =
+      let (link, _, (g, at, _, _, is), _, gone) = takes in
+      elim (set_rest frames (place_of from link.next) g at f has) [
+        | inl stays ↦ inl (subst (λ (xs : List (Option Frame)). Contains xs (Some f)) (sym gone) stays)
+        | inr same ↦ inr (ap (λ (x : Frame). x.datagram) same ∙ is)
+      ]
+
+  pub takes_expected : (epoch number : ℕ) → Expects from epoch number links → WaitsAs from number d frames × Expects from epoch (after number) links_now
+  takes_expected epoch number (l, at, in_epoch, is) =
+      let (link, there, waits, more, _) = takes in
+      let same : link ≡ l = link_same link l (sym there ∙ at) in
+      let next : link.next ≡ number = ap (λ (x : Link). x.next) same ∙ is in
+      let moved_on : Link = record link { next = after link.next } in (
+        subst (λ (n : ℕ). WaitsAs from n d frames) next waits,
+        (moved_on, subst (λ (ls : List Link). slice_get ls from ≡ Some moved_on) (sym more) (get_set links from link moved_on there), ap (λ (x : Link). x.epoch) same ∙ in_epoch, ap after next),
+      )
+
+-- a frame that is expected is not early
+pub expected_not_early : (from epoch number : ℕ) (links : List Link) → Expects from epoch number links → IsEarlyIn from epoch number links → ⊥
+expected_not_early from epoch number links (l, at, _, is) (k, there, early) = omega (arith, early.1, ap (λ (x : Link). x.next) (link_same l k (sym at ∙ there)), is)
+
+pub frames_more : (from number : ℕ) (ds : List Datagram) (last : ℕ) (d : Datagram) (frames : List (Option Frame)) → AreFrames from number ds last frames → WaitsAs from last d frames → AreFrames from number (ds ++ d ∷ []) (after last) frames
+frames_more from number [] last d frames is waits = (subst (λ (n : ℕ). WaitsAs from n d frames) (sym is) waits, ap after is)
+frames_more from number (x ∷ ds) last d frames (first, rest) waits = (first, frames_more from (after number) ds last d frames rest waits)
+
+pub none_next : (from epoch last : ℕ) (links : List Link) (frames : List (Option Frame)) → NoneNext from links frames → Expects from epoch last links → Waits from last frames → ⊥
+none_next from epoch last links frames none (link, at, _, is) waits = none link at (subst (λ (n : ℕ). Waits from n frames) (sym is) waits)
+
+-- ---- the datagrams of peers: those that are ready, and those that wait
+
+abbrev both : List Datagram → List (Option Frame) → Datagrams
+both ready frames = either (ready_in ready) (early_in frames)
+
+module _ (ready ready_now : List Datagram) (frames frames_now : List (Option Frame)) where
+  pub peers_keep : (from : ℕ) (bytes : List ℕ) → KeepsOnly from bytes (ready_in ready) (ready_in ready_now) → KeepsOnly from bytes (early_in frames) (early_in frames_now) → KeepsOnly from bytes (both ready frames) (both ready_now frames_now)
+  peers_keep from bytes is_ready early a b has = elim has [
+    | inl now ↦ elim (is_ready a b now) [
+      | inl only ↦ inl only
+      | inr before ↦ inr (inl before)
+    ]
+    | inr waits ↦ elim (early a b waits) [
+      | inl only ↦ inl only
+      | inr before ↦ inr (inr before)
+    ]
   ]
-  | inr waits ↦ elim (early a b waits) [
-    | inl only ↦ inl only
-    | inr before ↦ inr (inr before)
+
+  pub peers_rest : NoMore (ready_in ready) (ready_in ready_now) → KeepsSome frames frames_now → NoMore (both ready frames) (both ready_now frames_now)
+  peers_rest is_ready early a b has = elim has [
+    | inl now ↦ inl (is_ready a b now)
+    | inr waits ↦ inr (waits.0, keeps_contains frames frames_now early waits.0 waits.1, waits.2)
   ]
-]
 
-pub peers_rest : (p q : FromPeers) → NoMore (ready_in p.ready.items) (ready_in q.ready.items) → KeepsSome p.early.frames.items q.early.frames.items → NoMore (of_peers p) (of_peers q)
-peers_rest p q ready early a b has = elim has [
-  | inl is_ready ↦ inl (ready a b is_ready)
-  | inr waits ↦ inr (waits.0, early waits.0 waits.1, waits.2)
-]
-
--- a frame that waited is ready
-pub moved : (p q : FromPeers) (sender : ℕ) (d : Datagram) → q.ready.items ≡ p.ready.items ++ d ∷ [] → WaitedFrom sender d p.early.frames.items → KeepsSome p.early.frames.items q.early.frames.items → NoMore (of_peers p) (of_peers q)
-moved p q sender d same (number, (f, was, _, _, is)) early a b has = elim has [
-  | inl is_ready ↦ elim (push_cases packet_of p.ready.items d (record { address = a; bytes = b }) (subst (λ (ds : List Datagram). ready_in ds a b) same is_ready)) [
-    | inl before ↦ inl before
-    | inr this ↦ inr (f, was, ap packet_of is ∙ sym this)
+  -- a frame that waited is ready
+  pub moved : (d : Datagram) → ready_now ≡ ready ++ d ∷ [] → (f : Frame) × Contains frames (Some f) × (f.datagram ≡ d) → KeepsSome frames frames_now → NoMore (both ready frames) (both ready_now frames_now)
+  moved d same (f, was, is) early a b has = elim has [
+    | inl now ↦ elim (push_cases packet_of ready d (record { address = a; bytes = b }) (subst (λ (ds : List Datagram). ready_in ds a b) same now)) [
+      | inl before ↦ inl before
+      | inr this ↦ inr (f, was, ap packet_of is ∙ sym this)
+    ]
+    | inr waits ↦ inr (waits.0, keeps_contains frames frames_now early waits.0 waits.1, waits.2)
   ]
-  | inr waits ↦ inr (waits.0, early waits.0 waits.1, waits.2)
-]
 
-pub nothing_kept : (ready : List Datagram) (frames : List (Option Frame)) → ready ≡ [] → KeepsSome [] frames → NoMore (λ _ _. ⊥) (either (ready_in ready) (early_in frames))
+pub nothing_kept : (ready : List Datagram) (frames : List (Option Frame)) → ready ≡ [] → KeepsSome [] frames → NoMore (λ _ _. ⊥) (both ready frames)
 nothing_kept ready frames none keeps a b has = elim has [
   | inl is_ready ↦ let w = subst (λ (ds : List Datagram). ready_in ds a b) none is_ready in omega (arith, w.1)
-  | inr waits ↦ let w = keeps waits.0 waits.1 in omega (arith, w.1)
+  | inr waits ↦ let w = keeps_contains [] frames keeps waits.0 waits.1 in omega (arith, w.1)
 ]
 
 pub waits_same : (from number : ℕ) (d : Datagram) (v w : Vec (Option Frame) Global) → w ≡ v → WaitsAs from number d v.items → WaitsAs from number d w.items
@@ -123,29 +272,38 @@ waits_in from number d e g same waits = subst (λ (x : Early). WaitsAs from numb
 pub early_still : (from : ℕ) (bytes : List ℕ) (old : List (Option Frame)) (v w : Vec (Option Frame) Global) → w ≡ v → KeepsOnly from bytes (early_in old) (early_in v.items) → KeepsOnly from bytes (early_in old) (early_in w.items)
 early_still from bytes old v w same keeps = subst (λ (x : Vec (Option Frame) Global). KeepsOnly from bytes (early_in old) (early_in x.items)) (sym same) keeps
 
-pub ok_map : (r : Result (Unit {0}) NoMemory) (P Q : Type 0) → (P → Q) → OnOk r P → OnOk r Q
+pub ok_map : {E : Type 0} (r : Result (Unit {0}) E) (P Q : Type 0) → (P → Q) → OnOk r P → OnOk r Q
 ok_map (Ok u) P Q f p = f p
 ok_map (Err e) P Q f p = tt
 
-pub ok_gives : (r : Result (Unit {0}) NoMemory) (P : Type 0) → OnOk r P → is_ok r ≡ true → P
-ok_gives (Ok u) P p ok = p
-ok_gives (Err e) P p ok = absurd (true≢false (sym ok))
+pub ok_of : {E : Type 0} (r : Result (Unit {0}) E) (P : Type 0) → P → OnOk r P
+ok_of (Ok u) P p = p
+ok_of (Err e) P p = tt
 
-pub frames_same : (v w : Vec (Option Frame) Global) → w ≡ v → KeepsSome v.items w.items
-frames_same v w same f has = subst (λ (x : Vec (Option Frame) Global). Contains x.items (Some f)) same has
+pub frames_same : (v w : Vec (Option Frame) Global) → w ≡ v → w.items ≡ v.items
+frames_same v w same = ap (λ (x : Vec (Option Frame) Global). x.items) same
 
 -- ---- order
 
-pub made_more : (from : ℕ) (bytes : List ℕ) (old mid new : List Datagram) → IsMadeReady from bytes old mid → StaysReady mid new → IsMadeReady from bytes old new
-made_more from bytes old mid new (d, behind, is, same) (more, then) =
-    (d, behind ++ more, is, then ∙ ap (λ (ds : List Datagram). ds ++ more) same ∙ append_assoc old (d ∷ behind) more)
+pub made_ready : (from : ℕ) (bytes : List ℕ) (old mid new : List Datagram) (d : Datagram) → Is from bytes d → mid ≡ old ++ d ∷ [] → StaysReady mid new → IsMadeReady from bytes old new
+made_ready from bytes old mid new d is same (more, then) = (d, more, is, then ∙ ap (λ (ds : List Datagram). ds ++ more) same ∙ append_assoc old (d ∷ []) more)
+
+pub head_same : (h k : Head) → Some h ≡ Some k → h ≡ k
+head_same h k e = cc
+
+pub none_behind : (ds : List Datagram) → ds ++ [] ≡ ds
+none_behind [] = refl
+none_behind (d ∷ ds) = ap (λ (r : List Datagram). d ∷ r) (none_behind ds)
 
 pub stays_same : (old new : List Datagram) → new ≡ old → StaysReady old new
 stays_same old new same = ([], same ∙ sym (none_behind old))
-  where
-    none_behind : (ds : List Datagram) → ds ++ [] ≡ ds
-    none_behind [] = refl
-    none_behind (d ∷ ds) = ap (λ (r : List Datagram). d ∷ r) (none_behind ds)
+
+-- one more is ready
+pub holds_still : (old new : List Datagram) (d e : Datagram) → new ≡ old ++ d ∷ [] → Contains old e → Contains new e
+holds_still old new d e more has = subst (λ (ds : List Datagram). Contains ds e) (sym more) (Contains-append_left old (d ∷ []) e has)
+
+pub holds_last : (old new : List Datagram) (d e : Datagram) → new ≡ old ++ d ∷ [] → e ≡ d → Contains new e
+holds_last old new d e more is = subst (λ (ds : List Datagram). Contains ds e) (sym more) (Contains-append_right old (d ∷ []) e (zero, omega arith, sym is))
 
 pub stays_then : (old between new : List Datagram) → StaysReady old between → StaysReady between new → StaysReady old new
 stays_then old between new (one, is) (other, same) = (one ++ other, same ∙ ap (λ (ds : List Datagram). ds ++ other) is ∙ append_assoc old one other)

@@ -4,18 +4,18 @@ use Rattle.std.proofs.lemmas.Bool.{true≢false}
 use Rattle.std.proofs.lemmas.Option.{none-some}
 use Rattle.std.specs.Prelude.{◌⊎◌, Contains, IfOk, IfSome, IsSome, OnErr, OnOk, slice_index_or}
 use Rattle.crsm_base.specs.declared.memory.Failed.{Failed}
-use Rattle.crsm_base.specs.declared.memory.NoMemory.{NoMemory}
 use Rattle.crsm_port.specs.Meaning.{IsWithin, Packet}
 use Rattle.crsm_port.specs.Passing.{Cut, Datagrams, IsOf, NoMore, Only}
 use Rattle.crsm_port.specs.declared.port.Recv.{Recv}
 use Rattle.crsm_port.specs.declared.port.Recv.TheVariants.{Nothing, Datagram}
-use Rattle.crsm_port_flow.specs.Early.{KeepsSome, OneMoreWaits}
+use Rattle.crsm_port_flow.specs.Early.{OneMoreWaits}
 use Rattle.crsm_port_flow.specs.Kept.{GoesUp, KeepsOnly, early_in, given_by, kept_in, of_clients, of_peers, operate_in, packet_in, packet_of, ready_in, waiting_in}
 use Rattle.crsm_port_flow.specs.Order.{FirstGoes, IsTheirTurn, LatestGoes, NextGoes, OldestGoes}
 use Rattle.crsm_port_flow.specs.Turns.{DropsOver}
 use Rattle.crsm_port_flow.specs.declared.clients.Clients.{Clients}
 use Rattle.crsm_port_flow.specs.declared.clients.Operate.{Operate}
 use Rattle.crsm_port_flow.specs.declared.datagram.Datagram.{Datagram as Kept}
+use Rattle.crsm_port_flow.specs.declared.datagram.Loss.{Loss}
 use Rattle.crsm_port_flow.specs.declared.early.Early.{Early}
 use Rattle.crsm_port_flow.specs.declared.early.Frame.{Frame}
 use Rattle.crsm_port_flow.specs.declared.inbound.Inbound.{Inbound}
@@ -84,9 +84,6 @@ pub no_more_same : {X : Type 0} (F : X → Datagrams) (x y : X) → y ≡ x → 
 no_more_same {X = X} F x y same a b has = subst (λ (z : X). F z a b) same has
 
 -- ---- frames
-
-pub early_same : (old new : List (Option Frame)) → KeepsSome old new → NoMore (early_in old) (early_in new)
-early_same old new keeps a b (f, has, is) = (f, keeps f has, is)
 
 packet_only : (d : Kept) (from a : ℕ) (bytes b : List ℕ) → (let p : Packet = record { address = from; bytes = bytes } in packet_of d ≡ p) → (let q : Packet = record { address = a; bytes = b } in packet_of d ≡ q) → Only from bytes a b
 packet_only d from a bytes b one other =
@@ -329,7 +326,7 @@ dropped_rest now i j peers (gone, is, _) operate a b has = elim has [
 
 -- ---- a request that waits
 
-pub request_kept : (from : ℕ) (bytes : List ℕ) (r : Waiting) (c e : Clients) (kept : Result (Unit {0}) NoMemory) → (let p : Packet = record { address = from; bytes = bytes } in packet_in r ≡ p) → e.operate ≡ c.operate
+pub request_kept : (from : ℕ) (bytes : List ℕ) (r : Waiting) (c e : Clients) (kept : Result (Unit {0}) Loss) → (let p : Packet = record { address = from; bytes = bytes } in packet_in r ≡ p) → e.operate ≡ c.operate
     → OnOk kept (e.requests.waiting.items ≡ c.requests.waiting.items ++ r ∷ []) → OnErr kept (e.requests.waiting.items ≡ c.requests.waiting.items) → KeepsOnly from bytes (of_clients c) (of_clients e)
 request_kept from bytes r c e (Ok u) is operate more same a b has = elim has [
   | inl waits ↦ elim (waiting_more from bytes r c.requests.waiting.items e.requests.waiting.items is more a b waits) [

@@ -3,3 +3,4 @@ mod Flows
 mod Keepings
 mod Sendings
 mod Turns
+mod Losing

@@ -25,7 +25,11 @@ IsRequest bytes = (command : Command) × SpeltDatagram (datagram.Request command
 abbrev pub IsOperate : List ℕ → Type 0
 IsOperate bytes = (members : Members) × SpeltDatagram (datagram.Operate members) (behind_any_mark bytes)
 
+-- the bytes ask for nothing
+abbrev pub AsksNothing : List ℕ → Type 0
+AsksNothing bytes = (IsRequest bytes → ⊥) × (IsOperate bytes → ⊥)
+
 abbrev pub IsAskedIn : Asked → List ℕ → Type 0
 IsAskedIn asked.Command bytes = IsRequest bytes
 IsAskedIn asked.Membership bytes = IsOperate bytes
-IsAskedIn asked.Nothing bytes = Unit {0}
+IsAskedIn asked.Nothing bytes = AsksNothing bytes

@@ -1,8 +1,13 @@
 pub mod Acks
 pub mod Early
+pub mod Followed
 pub mod Heads
+pub mod Hears
 pub mod Kept
+pub mod Losses
+pub mod Lost
 pub mod Order
+pub mod Rooms
 pub mod Taken
 pub mod Turns
 pub mod Waits

@@ -1,15 +1,16 @@
 //! What those ask for who are no peers: clients' requests, and an operator's request for a membership change.
 
-ghost use Rattle.std.specs.Prelude.{◌≡◌, ◌⊎◌, ℕ, [], IfOk, IfSome, OnOk, None, Some, true, false};
+ghost use Rattle.std.specs.Prelude.{◌≡◌, ◌⊎◌, ℕ, [], IfOk, IfSome, IsErrOf, OnOk, None, Some, true, false};
 ghost use Rattle.crsm_port.specs.Passing.{NoMore};
-ghost use Rattle.crsm_port_flow.specs.Heads.{IsOperate, IsRequest};
+ghost use Rattle.crsm_port_flow.specs.Heads.{AsksNothing, IsOperate, IsRequest};
 ghost use Rattle.crsm_port_flow.specs.Kept.{KeepsOnly, of_clients};
+ghost use Rattle.crsm_port_flow.specs.Lost.{HasNoRoomOfClients};
 ghost use Rattle.crsm_port_flow.specs.Order.{IsNotDue, LatestGoes, NoneGoes, OldestGoes};
 ghost use Rattle.crsm_port_flow.specs.Taken.{IsAsked};
 ghost use Rattle.crsm_port_flow.specs.Turns.{AreInTime, DropsOver, IsAnswered, IsCommandIn};
 
 use crate::commands::Command;
-use crate::datagram::{Datagram, Room};
+use crate::datagram::{Datagram, Limits, Loss, Room};
 use crate::heads::{Asked, asked_in};
 use crate::requests::{MOST_KEPT, RequestFate, Requests};
 use crate::time::is_recent;
@@ -17,8 +18,11 @@ use crsm_base::NoMemory;
 use crsm_port::Recv;
 use std::alloc::Global;
 
-/// Maximum number of bytes of all that is kept.
-const MOST_BYTES: usize = 4_194_304;
+/// Room for all requests that are kept, and two for a membership change, of which the later takes the place of the other.
+const LIMITS: Limits = Limits {
+    datagrams: MOST_KEPT + 2,
+    bytes: 4_194_304,
+};
 
 /// Time in microseconds after which the request for a membership change is handed up again.
 const PAUSE: u64 = 1_000_000;
@@ -59,50 +63,56 @@ impl Clients {
     {
         Ok(Clients {
             alloc,
-            room: Room::new(alloc, MOST_KEPT + 1, MOST_BYTES),
+            room: Room::new(alloc),
             requests: Requests::new(alloc)?,
             operate: None,
         })
     }
 
-    /// Takes in what one asks for, and returns whether it did. A datagram that asks for nothing is dropped, and so is
-    /// one for which there is no room or no memory.
-    pub(crate) fn take_in(&mut self, from: u64, bytes: &[u8], now: u64) -> bool
-        ensures taken { result ≡ true → IsAsked from bytes.now now self.old self.new }
+    /// Takes in what one asks for. `Dropped` if it asks for nothing, or if there is no room; `NoMemory` if memory runs
+    /// out.
+    pub(crate) fn take_in(&mut self, from: u64, bytes: &[u8], now: u64) -> Result<(), Loss>
+        ensures taken { OnOk result (IsAsked from bytes.now now self.old self.new) }
+        ensures dropped { IsErrOf result Loss.Dropped → AsksNothing bytes.now ⊎ HasNoRoomOfClients bytes.now self.old }
         ensures only { KeepsOnly from bytes.now (of_clients self.old) (of_clients self.new) }
     {
         match asked_in(self.alloc, bytes) {
-            Ok(Asked::Command) => self.take_request(from, bytes, now).is_ok(),
-            Ok(Asked::Membership) => self.take_operate(from, bytes, now).is_ok(),
-            Ok(Asked::Nothing) | Err(NoMemory) => false,
+            Ok(Asked::Command) => self.take_request(from, bytes, now),
+            Ok(Asked::Membership) => self.take_operate(from, bytes, now),
+            Ok(Asked::Nothing) => Err(Loss::Dropped),
+            Err(NoMemory) => Err(Loss::NoMemory),
         }
     }
 
     /// Takes a request in. It goes no further if the node has it already.
-    fn take_request(&mut self, from: u64, bytes: &[u8], now: u64) -> Result<(), NoMemory>
-        ensures taken { IsRequest bytes.now → OnOk result (IsAsked from bytes.now now self.old self.new) }
+    fn take_request(&mut self, from: u64, bytes: &[u8], now: u64) -> Result<(), Loss>
+        requires { IsRequest bytes.now }
+        ensures taken { OnOk result (IsAsked from bytes.now now self.old self.new) }
+        ensures dropped { IsErrOf result Loss.Dropped → HasNoRoomOfClients bytes.now self.old }
         ensures only { KeepsOnly from bytes.now (of_clients self.old) (of_clients self.new) }
     {
         let Some(command) = Command::of(bytes) else {
-            return Err(NoMemory);
+            return Err(Loss::NoMemory);
         };
         match self.requests.fate(command, now) {
             RequestFate::IsUnderWay => Ok(()),
-            RequestFate::HasNoRoom => Err(NoMemory),
+            RequestFate::HasNoRoom => Err(Loss::Dropped),
             RequestFate::Waits => {
-                let datagram = self.room.put(from, bytes)?;
+                let datagram = self.room.put(LIMITS, from, bytes)?;
                 self.requests.keep(command, datagram, now)
             }
         }
     }
 
     /// Keeps a request for a membership change in place of the one before it.
-    fn take_operate(&mut self, from: u64, bytes: &[u8], now: u64) -> Result<(), NoMemory>
-        ensures taken { IsOperate bytes.now → OnOk result (IsAsked from bytes.now now self.old self.new) }
+    fn take_operate(&mut self, from: u64, bytes: &[u8], now: u64) -> Result<(), Loss>
+        requires { IsOperate bytes.now }
+        ensures taken { OnOk result (IsAsked from bytes.now now self.old self.new) }
+        ensures dropped { IsErrOf result Loss.Dropped → HasNoRoomOfClients bytes.now self.old }
         ensures only { KeepsOnly from bytes.now (of_clients self.old) (of_clients self.new) }
     {
+        let datagram = self.room.put(LIMITS, from, bytes)?;
         self.forget_operate();
-        let datagram = self.room.put(from, bytes)?;
         self.operate = Some(Operate {
             datagram,
             at: now,

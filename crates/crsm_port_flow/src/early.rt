@@ -1,7 +1,8 @@
 //! Frames that were received before an earlier frame of their link.
 
-ghost use Rattle.std.specs.Prelude.{◌≡◌, [], None, IfOk, IfSome, OnOk, true};
-ghost use Rattle.crsm_port_flow.specs.Early.{IsAfterExpected, IsEarlyIn, IsFrameOf, KeepsSome, OneMoreWaits, StayKept, Waits, WaitsAs, WaitedFrom};
+ghost use Rattle.std.specs.Prelude.{◌≡◌, ◌<◌, ◌≤◌, ◌↔◌, ℕ, [], None, length, slice_set, IfOk, IfErr, IfSome, IsSome, IsTrue, OnOk, true};
+ghost use Rattle.crsm_port_flow.specs.Early.{Expects, kept_at, IsAfterExpected, IsEarlyIn, IsFrameOf, KeepsSome, NoneNext, OneMoreWaits, StayKept, TakesNext, Waits, WaitsAs, after, place_of};
+ghost use Rattle.crsm_port_flow.specs.Rooms.{Counts, IsOneMore};
 
 use crate::datagram::{Datagram, Room};
 use crate::heads::Head;
@@ -61,10 +62,14 @@ impl Link {
 pub(crate) struct Early {
     links: Vec<Link>,
     frames: Vec<Option<Frame>>,
+    ghost wide: { length frames.items ≡ 15_360 },
 }
 
 /// Returns the index of a frame among the kept ones.
-fn place_of(from: u8, number: u64) -> usize {
+fn place_of(from: u8, number: u64) -> usize
+    ensures place { result ≡ place_of from number }
+    ensures within { result < 15_360 }
+{
     usize::from(from) % REPLICAS * WINDOW + (number % WINDOW as u64) as usize
 }
 
@@ -86,7 +91,8 @@ impl Early {
 
     /// Returns what becomes of a received frame.
     pub(crate) fn fate(&self, frame: Head) -> FrameFate
-        ensures waits { result ≡ FrameFate.Waits → IsEarlyIn frame.from frame.epoch frame.number self.now.links.items }
+        ensures early { (result ≡ FrameFate.InOrder → ⊥) → IsEarlyIn frame.from frame.epoch frame.number self.now.links.items }
+        ensures waits { result ≡ FrameFate.Waits → Waits frame.from frame.number self.now.frames.items → ⊥ }
         ensures kept { result ≡ FrameFate.IsKept → Waits frame.from frame.number self.now.frames.items }
     {
         match self.links.get(usize::from(frame.from)) {
@@ -97,7 +103,8 @@ impl Early {
 
     /// Returns what becomes of a frame before which another is missing.
     fn fate_of_early(&self, frame: Head) -> FrameFate
-        ensures waits { result ≡ FrameFate.InOrder → ⊥ }
+        ensures early { result ≡ FrameFate.InOrder → ⊥ }
+        ensures waits { result ≡ FrameFate.Waits → Waits frame.from frame.number self.now.frames.items → ⊥ }
         ensures kept { result ≡ FrameFate.IsKept → Waits frame.from frame.number self.now.frames.items }
     {
         if self.has(frame.from, frame.number) {
@@ -109,12 +116,9 @@ impl Early {
 
     /// Returns whether the frame of this sender and number is kept.
     fn has(&self, from: u8, number: u64) -> bool
-        ensures { result ≡ true → Waits from number self.now.frames.items }
+        ensures { IsTrue result ↔ Waits from number self.now.frames.items }
     {
-        match self.frames.get(place_of(from, number)) {
-            Some(place) => is_frame(place, from, number),
-            None => false,
-        }
+        is_frame(&self.frames[place_of(from, number)], from, number)
     }
 
     /// Keeps a frame that waits, or returns its datagram if another is kept in its place.
@@ -122,18 +126,19 @@ impl Early {
         ensures waits { OnOk result (WaitsAs frame.from frame.number datagram self.new.frames.items) }
         ensures stay { StayKept self.old.frames.items self.new.frames.items }
         ensures only { OneMoreWaits datagram self.old.frames.items self.new.frames.items }
+        ensures one_more { OnOk result (IsOneMore datagram self.old.frames.items self.new.frames.items) }
+        ensures taken { IfErr result (λ d. (d ≡ datagram) × (self.new.frames.items ≡ self.old.frames.items) × (kept_at frame.from frame.number self.old.frames.items ≡ None → ⊥)) }
     {
-        match self.frames.get_mut(place_of(frame.from, frame.number)) {
-            Some(place) if is_free(place) => {
-                *place = Some(Frame {
-                    from: frame.from,
-                    number: frame.number,
-                    datagram,
-                });
-                Ok(())
-            }
-            _ => Err(datagram),
+        let place = &mut self.frames[place_of(frame.from, frame.number)];
+        if !is_free(place) {
+            return Err(datagram);
         }
+        *place = Some(Frame {
+            from: frame.from,
+            number: frame.number,
+            datagram,
+        });
+        Ok(())
     }
 
     /// Returns whether a frame that waits is handed up as well: one of its link was not for a while.
@@ -155,7 +160,8 @@ impl Early {
 
     /// Records that a frame is handed up, if it is the expected one.
     pub(crate) fn note_handed_up(&mut self, frame: Head)
-        ensures { self.new.frames ≡ self.old.frames }
+        ensures frames { self.new.frames ≡ self.old.frames }
+        ensures next { Expects frame.from frame.epoch frame.number self.old.links.items → Expects frame.from frame.epoch (after frame.number) self.new.links.items }
     {
         if let Some(link) = self.links.get_mut(usize::from(frame.from)) {
             if link.epoch == frame.epoch && link.next == frame.number {
@@ -166,8 +172,8 @@ impl Early {
 
     /// Removes the kept frame that is expected next, and records that it is handed up; or returns `None`.
     pub(crate) fn take_next(&mut self, from: u8) -> Option<Datagram>
-        ensures was { IfSome result (λ d. WaitedFrom from d self.old.frames.items) }
-        ensures only { KeepsSome self.old.frames.items self.new.frames.items }
+        ensures next { IfSome result (λ d. TakesNext from d self.old.links.items self.new.links.items self.old.frames.items self.new.frames.items) }
+        ensures none { result ≡ None → NoneNext from self.old.links.items self.old.frames.items × (self.new.links.items ≡ self.old.links.items) × (self.new.frames.items ≡ self.old.frames.items) }
     {
         let link = self.links.get_mut(usize::from(from))?;
         let next = link.next;
@@ -179,7 +185,9 @@ impl Early {
     /// Records the sequence number that this replica expects next from another. Frames of another epoch, and those
     /// before it, are removed, and their datagrams taken back.
     pub(crate) fn note_expected(&mut self, of: u8, epoch: u64, next: u64, room: &mut Room)
-        ensures { KeepsSome self.old.frames.items self.new.frames.items }
+        ensures only { KeepsSome self.old.frames.items self.new.frames.items }
+        ensures room { (others sizes : ℕ) → Counts room.old others sizes self.old.frames.items → Counts room.new others sizes self.new.frames.items }
+        ensures no_more { room.new.count ≤ room.old.count }
     {
         let Some(link) = self.links.get_mut(usize::from(of)) else {
             return;
@@ -200,7 +208,10 @@ impl Early {
 
     /// Removes the kept frames of a replica before a number.
     fn forget(&mut self, of: u8, least: u64, room: &mut Room)
-        ensures { KeepsSome self.old.frames.items self.new.frames.items }
+        ensures only { KeepsSome self.old.frames.items self.new.frames.items }
+        ensures room { (others sizes : ℕ) → Counts room.old others sizes self.old.frames.items → Counts room.new others sizes self.new.frames.items }
+        ensures no_more { room.new.count ≤ room.old.count }
+        ensures links { self.new.links ≡ self.old.links }
     {
         for number in 0..WINDOW as u64 {
             if let Some(datagram) = take_below(&mut self.frames, place_of(of, number), least) {
@@ -212,10 +223,11 @@ impl Early {
 
 /// Returns the places of kept frames, all of them free. `NoMemory` if memory runs out.
 fn no_frames(alloc: Global) -> Result<Vec<Option<Frame>>, NoMemory>
-    ensures { IfOk result (λ frames. KeepsSome [] frames.items) }
+    ensures free { IfOk result (λ frames. KeepsSome [] frames.items) }
+    ensures all { IfOk result (λ frames. length frames.items ≡ 15_360) }
 {
     let mut frames = Vec::with_capacity(alloc, REPLICAS * WINDOW)?;
-    for _ in 0..REPLICAS * WINDOW {
+    while frames.len() < REPLICAS * WINDOW {
         frames.push(None)?;
     }
     Ok(frames)
@@ -224,7 +236,8 @@ fn no_frames(alloc: Global) -> Result<Vec<Option<Frame>>, NoMemory>
 /// Removes the frame of this sender and number, and returns its datagram; or `None`.
 fn take_at(frames: &mut Vec<Option<Frame>>, from: u8, number: u64) -> Option<Datagram>
     ensures was { IfSome result (λ d. WaitsAs from number d frames.old.items) }
-    ensures only { KeepsSome frames.old.items frames.new.items }
+    ensures gone { IsSome result → frames.new.items ≡ slice_set frames.old.items (place_of from number) None }
+    ensures none { result ≡ None → (frames.new.items ≡ frames.old.items) × (Waits from number frames.old.items → ⊥) }
 {
     let place = frames.get_mut(place_of(from, number))?;
     if !is_frame(place, from, number) {
@@ -236,14 +249,14 @@ fn take_at(frames: &mut Vec<Option<Frame>>, from: u8, number: u64) -> Option<Dat
 
 /// Returns whether a place has no frame.
 fn is_free(place: &Option<Frame>) -> bool
-    ensures { result ≡ true → place.now ≡ None }
+    ensures { IsTrue result ↔ (place.now ≡ None) }
 {
     place.is_none()
 }
 
 /// Returns whether this is the frame of this sender and number.
 fn is_frame(place: &Option<Frame>, from: u8, number: u64) -> bool
-    ensures { result ≡ true → IsFrameOf from number place.now }
+    ensures { IsTrue result ↔ IsFrameOf from number place.now }
 {
     match place {
         Some(frame) => frame.from == from && frame.number == number,
@@ -253,7 +266,8 @@ fn is_frame(place: &Option<Frame>, from: u8, number: u64) -> bool
 
 /// Removes the frame at a place if its number is below this one, and returns its datagram; or `None`.
 fn take_below(frames: &mut Vec<Option<Frame>>, place: usize, least: u64) -> Option<Datagram>
-    ensures { KeepsSome frames.old.items frames.new.items }
+    ensures gone { IfSome result (λ d. IsOneMore d frames.new.items frames.old.items × (frames.new.items ≡ slice_set frames.old.items place None)) }
+    ensures none { result ≡ None → frames.new.items ≡ frames.old.items }
 {
     let place = frames.get_mut(place)?;
     match place {

@@ -1,12 +1,13 @@
 //! `FlowPort`: retransmission and flow control around a port.
 
-ghost use Rattle.std.specs.Prelude.{◌≡◌, ◌≢◌, ◌⊎◌, ◌++◌, List, [], take, map, true, IfOk, IfSome, IsOk, IsOkAnd, OnErr, length};
+ghost use Rattle.std.specs.Prelude.{◌≡◌, ◌≢◌, ◌≤◌, ◌⊎◌, ◌++◌, List, [], take, map, IfOk, IfSome, IsErrOf, IsOk, IsOkAnd, OnErr, OnOk, length};
 ghost use Rattle.crsm_port_faults.specs.Counts.{Rose};
 ghost use Rattle.crsm_port.specs.Meaning.{IsWithin, Packet, Receives, Sends};
 ghost use Rattle.crsm_port.specs.Passing.{Cut, HandsUp, IsOf, NoMore, PassesOn, Rests};
 ghost use Rattle.crsm_port.specs.Unknown.{unknown};
 ghost use Rattle.crsm_port_flow.specs.Acks.{AllSay, packet_of, sent_with};
 ghost use Rattle.crsm_port_flow.specs.Kept.{KeepsOnly, given_by, kept_in};
+ghost use Rattle.crsm_port_flow.specs.Lost.{MayDrop, TakesIn};
 ghost use Rattle.crsm_port_flow.specs.Order.{NextGoes, NothingGoes};
 ghost use Rattle.crsm_port_flow.specs.Taken.{Comes, IsStranger};
 ghost use Rattle.crsm_port_flow.specs.Turns.{IsAnswered, IsReplyTo};
@@ -14,6 +15,7 @@ ghost use Rattle.crsm_port_flow.specs.Waits.{MayWait, SendsAll};
 ghost use Rattle.crsm_port_flow.specs.declared.commands.Command.{Command};
 
 use crate::clients::NextAsked;
+use crate::datagram::{Loss, Losses};
 use crate::hearing::{Heard, Hearing};
 use crate::inbound::Inbound;
 use crate::outbound::Outbound;
@@ -77,8 +79,8 @@ pub struct FlowPort<P, C> {
     faults: u64,
     losses: u64,
     empties: u64,
-    // The received datagrams that went no further, since they asked for nothing, or for want of room or memory.
-    dropped: u64,
+    // The received datagrams that went no further.
+    lost: Losses,
 }
 
 impl<P: Drop, C: Drop> FlowPort<P, C> {
@@ -107,7 +109,7 @@ impl<P: Drop, C: Drop> FlowPort<P, C> {
             faults: 0,
             losses: 0,
             empties: 0,
-            dropped: 0,
+            lost: Losses::new(),
         })
     }
 }
@@ -116,41 +118,47 @@ impl<P: Port, C: Clock> FlowPort<P, C> {
     /// Takes a received datagram in. What asks for nothing and comes from nobody who is a peer is dropped, and so is
     /// what there is no room or no memory for.
     fn take_in(&mut self, from: u64, len: usize)
+        requires { len ≤ length self.old.room.items }
         ensures kept { KeepsOnly from (take len self.old.room.items) (kept_in self.old.inbound) (kept_in self.new.inbound) }
-        ensures comes { Comes from (take len self.old.room.items) self.old.now self.old.hearing.peers.items self.old.inbound self.new.inbound ⊎ Rose self.old.dropped self.new.dropped }
+        ensures comes { TakesIn from (take len self.old.room.items) self.old.now self.old.hearing.peers.items self.old.inbound self.new.inbound self.old.lost self.new.lost }
         ensures leaves_room { IsStranger from self.old.hearing.peers.items → self.new.inbound.peers ≡ self.old.inbound.peers }
         ensures port { self.new.port ≡ self.old.port }
         ensures acks { self.new.outbound.acks ≡ self.old.outbound.acks }
         ensures counts { unknown self.new.faults self.new.losses self.new.empties ≡ unknown self.old.faults self.old.losses self.old.empties }
     {
-        if !self.takes(from, len) {
-            raise(&mut self.dropped);
-        }
+        let Err(loss) = self.takes(from, len) else {
+            return;
+        };
+        self.lost.count(loss);
     }
 
-    /// Takes a received datagram in, and returns whether it is not dropped.
-    fn takes(&mut self, from: u64, len: usize) -> bool
+    /// Takes a received datagram in. `Dropped` if it is of no use or there is no room for it, `NoMemory` if memory runs
+    /// out.
+    fn takes(&mut self, from: u64, len: usize) -> Result<(), Loss>
+        requires { len ≤ length self.old.room.items }
         ensures kept { KeepsOnly from (take len self.old.room.items) (kept_in self.old.inbound) (kept_in self.new.inbound) }
-        ensures comes { result ≡ true → Comes from (take len self.old.room.items) self.old.now self.old.hearing.peers.items self.old.inbound self.new.inbound }
+        ensures comes { OnOk result (Comes from (take len self.old.room.items) self.old.now self.old.hearing.peers.items self.old.inbound self.new.inbound) }
+        ensures dropped { IsErrOf result Loss.Dropped → MayDrop from (take len self.old.room.items) self.old.hearing.peers.items self.old.inbound }
         ensures leaves_room { IsStranger from self.old.hearing.peers.items → self.new.inbound.peers ≡ self.old.inbound.peers }
         ensures same { self.new ≡ record self.old { hearing = self.new.hearing; quiet = self.new.quiet; inbound = self.new.inbound; outbound = self.new.outbound } }
+        ensures lost { self.new.lost ≡ self.old.lost }
         ensures acks { self.new.outbound.acks ≡ self.old.outbound.acks }
     {
         let Some(bytes) = self.room.get(..len) else {
-            return false;
+            unreachable!();
         };
         match self.hearing.note(from, bytes, self.now) {
             Heard::Open => {
                 self.quiet.note(bytes, self.now);
                 self.outbound.note_received(bytes, self.now);
-                self.inbound.peers.take_in(from, bytes, self.now).is_ok()
+                self.inbound.peers.take_in(from, bytes, self.now)
             }
             Heard::Stranger => {
                 self.quiet.note(bytes, self.now);
                 self.inbound.clients.take_in(from, bytes, self.now)
             }
-            Heard::Closed => true,
-            Heard::Says => true,
+            Heard::Closed => Ok(()),
+            Heard::Says => Ok(()),
         }
     }
 
@@ -305,6 +313,7 @@ impl<P: Port, C: Clock> FlowPort<P, C> {
     /// Receives from the port, and does not wait if there is something else to do.
     fn arrived(&mut self, is_busy: bool) -> Result<Recv, Failed>
         ensures given { IfOk result (IsOf (P.gives self.old.port) self.new.room.items) }
+        ensures within { IfOk result (IsWithin (length self.new.room.items)) }
         ensures gives { NoMore (P.gives self.old.port) (P.gives self.new.port) }
         ensures sends { NoMore (P.may_send self.old.port) (P.may_send self.new.port) }
         ensures inbound { self.new.inbound ≡ self.old.inbound }

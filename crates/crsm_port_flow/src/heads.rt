@@ -1,6 +1,6 @@
 //! What a datagram is by its first bytes, with or without the mark of a cluster.
 
-ghost use Rattle.std.specs.Prelude.{◌↔◌, IfSome, IfOk, IsTrue};
+ghost use Rattle.std.specs.Prelude.{◌≡◌, ◌↔◌, Some, IfSome, IfOk, IsTrue};
 ghost use Rattle.crsm_port_flow.specs.Heads.{HasHead, IsAskedIn, IsReply};
 ghost use Rattle.crsm_port_flow.specs.Went.{IsPartIn};
 
@@ -29,7 +29,8 @@ pub(crate) struct Head {
 
 /// Returns the first fields of the bytes, if they are of this kind: a frame or an acknowledgement.
 pub(crate) fn head_in(kind: u8, bytes: &[u8]) -> Option<Head>
-    ensures { IfSome result (λ h. HasHead kind h.from h.to h.epoch h.number bytes.now) }
+    ensures head { IfSome result (λ h. HasHead kind h.from h.to h.epoch h.number bytes.now) }
+    ensures only { (h : Head) → HasHead kind h.from h.to h.epoch h.number bytes.now → result ≡ Some h }
 {
     match unmarked(bytes) {
         [first, from, to, fields @ ..] if *first == kind => {

@@ -1,9 +1,11 @@
 //! Which peers this node hears, and which of them hear it.
 
-ghost use Rattle.std.specs.Prelude.{◌≡◌, ◌∷◌, ℕ, List};
+ghost use Rattle.std.specs.Prelude.{◌≡◌, ◌↔◌, ◌+◌, ◌-◌, ◌^◌, ◌<◌, ◌∷◌, ℕ, List, min, true, false, IfSome, IsTrue};
+ghost use Rattle.std.specs.Int.{IsBitSet};
 ghost use Rattle.crsm_port.specs.Meaning.{Packet};
 ghost use Rattle.crsm_port.specs.Passing.{NoMore, either};
 ghost use Rattle.crsm_port_flow.specs.Acks.{AllSay, SaysHearing};
+ghost use Rattle.crsm_port_flow.specs.Hears.{AreKnownBy, SaysHears};
 ghost use Rattle.crsm_port_flow.specs.Taken.{IsOfDeaf, IsPeer, IsSaid, IsStranger};
 ghost use Rattle.crsm_port_flow.specs.Waits.{SendsAll};
 
@@ -40,7 +42,10 @@ impl Peer {
     }
 
     /// Records what the peer says: whether it hears this node.
-    fn note_said(&mut self, hears_me: bool) {
+    fn note_said(&mut self, hears_me: bool)
+        ensures hears { hears_me ≡ true → self.new ≡ record self.old { deaf = 0 } }
+        ensures not { hears_me ≡ false → self.new ≡ record self.old { deaf = min (self.old.deaf + 1) (2 ^ 32 - 1) } }
+    {
         self.deaf = if hears_me {
             0
         } else {
@@ -72,8 +77,20 @@ pub(crate) enum Heard {
 }
 
 /// Returns whether the bit of a replica is set.
-fn has_bit(mask: u16, replica: usize) -> bool {
+fn has_bit(mask: u16, replica: usize) -> bool
+    ensures { IsTrue result ↔ (replica < 16) × IsBitSet mask replica }
+{
     replica < 16 && mask >> replica & 1 == 1
+}
+
+/// Returns whether the bytes say that their sender hears a replica, or `None` if they say nothing of hearing.
+fn hears_in(bytes: &[u8], replica: usize) -> Option<bool>
+    ensures said { IfSome result (λ hears. IsSaid bytes.now × (IsTrue hears ↔ SaysHears replica bytes.now)) }
+{
+    match bytes {
+        [HEARING, high, low, ..] => { Some(has_bit(u16::from_be_bytes([*high, *low]), replica)) }
+        _ => None,
+    }
 }
 
 impl Hearing {
@@ -101,8 +118,10 @@ impl Hearing {
         ensures peer { result ≡ Heard.Open → IsPeer from self.old.peers.items }
         ensures says { result ≡ Heard.Says → IsSaid bytes.now }
         ensures closed { result ≡ Heard.Closed → IsOfDeaf from self.old.peers.items }
+        ensures known { AreKnownBy self.old.me from bytes.now self.old.peers.items self.new.peers.items }
+        ensures me { self.new.me ≡ self.old.me }
     {
-        let me = self.me;
+        let said = hears_in(bytes, self.me);
         let Some(place) = self.peers.iter().position(|peer| peer.address == from) else {
             return Heard::Stranger;
         };
@@ -110,8 +129,8 @@ impl Hearing {
             return Heard::Stranger;
         };
         peer.heard_at = Some(now);
-        if let [HEARING, high, low, ..] = bytes {
-            peer.note_said(has_bit(u16::from_be_bytes([*high, *low]), me));
+        if let Some(hears_me) = said {
+            peer.note_said(hears_me);
             return Heard::Says;
         }
         if peer.deaf >= MOST_DEAF {

@@ -1,15 +1,10 @@
 //! The datagrams that came from peers and are not handed up yet, each in its order.
 
-ghost use Rattle.std.specs.Prelude.{◌≡◌, ◌↔◌, ◌<◌, IsTrue, ◌⊎◌, [], length, IfOk, IfSome, OnOk, None};
-ghost use Rattle.std.specs.VecDeque.{deque_capacity, deque_len};
-ghost use Rattle.crsm_port.specs.Passing.{NoMore};
-ghost use Rattle.crsm_port_flow.specs.Early.{WaitsAs};
-ghost use Rattle.crsm_port_flow.specs.Heads.{HasHead};
-ghost use Rattle.crsm_port_flow.specs.Kept.{KeepsOnly, of_peers};
-ghost use Rattle.crsm_port_flow.specs.Order.{FirstGoes};
-ghost use Rattle.crsm_port_flow.specs.Taken.{Is, IsMadeReady, IsTaken, StaysReady};
+ghost use Rattle.std.specs.Prelude.{◌≡◌, ◌≤◌, length};
+ghost use Rattle.std.specs.VecDeque.{deque_capacity};
+ghost use Rattle.crsm_port_flow.specs.Rooms.{Counts, sizes_of};
 
-use crate::datagram::{Datagram, Room};
+use crate::datagram::{Datagram, Limits, Loss, Room};
 use crate::early::{Early, FrameFate};
 use crate::heads::{FRAME, Head, head_in};
 use crsm_base::NoMemory;
@@ -17,13 +12,13 @@ use crsm_port::Recv;
 use std::alloc::Global;
 use std::collections::VecDeque;
 
-/// Maximum number of datagrams from peers that are kept, and of their bytes together.
+/// Maximum number of datagrams from peers that are kept.
 const MOST_DATAGRAMS: usize = 4_096;
 
-const MOST_BYTES: usize = 16_777_216;
-
-/// Maximum number of frames that have waited for another one.
-const MOST_FOLLOWING: usize = 1_024;
+const LIMITS: Limits = Limits {
+    datagrams: MOST_DATAGRAMS,
+    bytes: 16_777_216,
+};
 
 /// The datagrams of peers: those in order, and frames that wait for an earlier one. They have room of their own, so that
 /// nobody else takes it.
@@ -32,15 +27,28 @@ pub(crate) struct FromPeers {
     room: Room,
     ready: VecDeque<Datagram>,
     early: Early,
+    ghost counted: { Counts room (length ready.items) (sizes_of ready.items) early.frames.items },
+    ghost few: { room.count ≤ 4_096 },
+    ghost reserved: { 4_096 ≤ deque_capacity ready },
 }
 
 impl FromPeers {
+    ghost use Rattle.std.specs.Prelude.{◌⊎◌, ◌++◌, [], ◌∷◌, IfOk, IfSome, IsErrOf, OnOk, None};
+    ghost use Rattle.crsm_port.specs.Passing.{NoMore};
+    ghost use Rattle.crsm_port_flow.specs.Early.{WaitsAs, kept_at};
+    ghost use Rattle.crsm_port_flow.specs.Followed.{Follow, IsFollowed, IsFollowedFrom, NoneLost};
+    ghost use Rattle.crsm_port_flow.specs.Heads.{HasHead};
+    ghost use Rattle.crsm_port_flow.specs.Kept.{KeepsOnly, of_peers};
+    ghost use Rattle.crsm_port_flow.specs.Lost.{HasNoRoomOfPeers, IsFullOfPeers};
+    ghost use Rattle.crsm_port_flow.specs.Order.{FirstGoes};
+    ghost use Rattle.crsm_port_flow.specs.Taken.{Is, IsMadeReady, IsTaken, StaysReady};
+
     /// Returns a state without datagrams, or `NoMemory` if memory runs out.
     pub(crate) fn new(alloc: Global) -> Result<FromPeers, NoMemory>
         ensures { IfOk result (λ p. NoMore (λ _ _. ⊥) (of_peers p)) }
     {
         Ok(FromPeers {
-            room: Room::new(alloc, MOST_DATAGRAMS, MOST_BYTES),
+            room: Room::new(alloc),
             ready: VecDeque::with_capacity(alloc, MOST_DATAGRAMS)?,
             early: Early::new(alloc)?,
         })
@@ -53,10 +61,13 @@ impl FromPeers {
         self.ready.len()
     }
 
-    /// Takes a datagram in, to be handed up in its order. `NoMemory` if memory runs out or there is no room; the
-    /// datagram is then lost, as any may be.
-    pub(crate) fn take_in(&mut self, from: u64, bytes: &[u8], now: u64) -> Result<(), NoMemory>
+    /// Takes a datagram in, to be handed up in its order. `Dropped` if there is no room, and `NoMemory` if memory runs
+    /// out; the datagram is then lost, as any may be.
+    pub(crate) fn take_in(&mut self, from: u64, bytes: &[u8], now: u64) -> Result<(), Loss>
         ensures taken { OnOk result (IsTaken from bytes.now self.old self.new) }
+        ensures dropped { IsErrOf result Loss.Dropped → HasNoRoomOfPeers bytes.now self.old }
+        ensures followed { OnOk result (IsFollowed from bytes.now self.old self.new) }
+        ensures none_lost { NoneLost self.old self.new }
         ensures stays { StaysReady self.old.ready.items self.new.ready.items }
         ensures only { KeepsOnly from bytes.now (of_peers self.old) (of_peers self.new) }
     {
@@ -67,24 +78,28 @@ impl FromPeers {
     }
 
     /// Keeps a datagram to be handed up after those that are ready.
-    fn make_ready(&mut self, from: u64, bytes: &[u8]) -> Result<(), NoMemory>
-        ensures ready { OnOk result (IsMadeReady from bytes.now self.old.ready.items self.new.ready.items) }
+    fn make_ready(&mut self, from: u64, bytes: &[u8]) -> Result<(), Loss>
+        ensures ready { OnOk result ((d : Datagram) × Is from bytes.now d × (self.new.ready.items ≡ self.old.ready.items ++ d ∷ [])) }
+        ensures dropped { IsErrOf result Loss.Dropped → IsFullOfPeers bytes.now self.old }
         ensures stays { StaysReady self.old.ready.items self.new.ready.items }
         ensures early { self.new.early ≡ self.old.early }
         ensures only { KeepsOnly from bytes.now (of_peers self.old) (of_peers self.new) }
     {
-        let datagram = self.room.put(from, bytes)?;
+        let datagram = self.room.put(LIMITS, from, bytes)?;
         if let Err(failed) = self.ready.push_back(datagram) {
             self.room.take_back(failed.value);
-            return Err(NoMemory);
+            return Err(Loss::NoMemory);
         }
         Ok(())
     }
 
     /// Takes a frame in. If it is the expected one, those that waited for it follow it.
-    fn take_frame(&mut self, from: u64, bytes: &[u8], frame: Head, now: u64) -> Result<(), NoMemory>
-        requires { HasHead 1 frame.from frame.to frame.epoch frame.number bytes.now }
+    fn take_frame(&mut self, from: u64, bytes: &[u8], frame: Head, now: u64) -> Result<(), Loss>
+        requires head { HasHead 1 frame.from frame.to frame.epoch frame.number bytes.now }
         ensures taken { OnOk result (IsTaken from bytes.now self.old self.new) }
+        ensures dropped { IsErrOf result Loss.Dropped → HasNoRoomOfPeers bytes.now self.old }
+        ensures followed { OnOk result (IsFollowedFrom frame.from frame.epoch frame.number from bytes.now self.old self.new) }
+        ensures none_lost { NoneLost self.old self.new }
         ensures stays { StaysReady self.old.ready.items self.new.ready.items }
         ensures only { KeepsOnly from bytes.now (of_peers self.old) (of_peers self.new) }
     {
@@ -96,8 +111,11 @@ impl FromPeers {
     }
 
     /// Makes a frame ready, and those that have waited for it.
-    fn take_in_order(&mut self, from: u64, bytes: &[u8], frame: Head) -> Result<(), NoMemory>
+    fn take_in_order(&mut self, from: u64, bytes: &[u8], frame: Head) -> Result<(), Loss>
         ensures ready { OnOk result (IsMadeReady from bytes.now self.old.ready.items self.new.ready.items) }
+        ensures dropped { IsErrOf result Loss.Dropped → IsFullOfPeers bytes.now self.old }
+        ensures followed { OnOk result (IsFollowedFrom frame.from frame.epoch frame.number from bytes.now self.old self.new) }
+        ensures none_lost { NoneLost self.old self.new }
         ensures stays { StaysReady self.old.ready.items self.new.ready.items }
         ensures only { KeepsOnly from bytes.now (of_peers self.old) (of_peers self.new) }
     {
@@ -108,15 +126,17 @@ impl FromPeers {
     }
 
     /// Keeps a frame until the one before it has come, and makes it ready as well if none of its link was for a while.
-    fn take_early(&mut self, from: u64, bytes: &[u8], frame: Head, now: u64) -> Result<(), NoMemory>
+    fn take_early(&mut self, from: u64, bytes: &[u8], frame: Head, now: u64) -> Result<(), Loss>
         ensures waits { OnOk result ((d : Datagram) × Is from bytes.now d × WaitsAs frame.from frame.number d self.new.early.frames.items) }
+        ensures dropped { IsErrOf result Loss.Dropped → IsFullOfPeers bytes.now self.old ⊎ (kept_at frame.from frame.number self.old.early.frames.items ≡ None → ⊥) }
+        ensures none_lost { NoneLost self.old self.new }
         ensures stays { StaysReady self.old.ready.items self.new.ready.items }
         ensures only { KeepsOnly from bytes.now (of_peers self.old) (of_peers self.new) }
     {
-        let datagram = self.room.put(from, bytes)?;
+        let datagram = self.room.put(LIMITS, from, bytes)?;
         if let Err(datagram) = self.early.keep(frame, datagram) {
             self.room.take_back(datagram);
-            return Err(NoMemory);
+            return Err(Loss::Dropped);
         }
         if self.early.tells(frame.from, now) {
             // It waits, whether or not there is room for this.
@@ -125,18 +145,14 @@ impl FromPeers {
         Ok(())
     }
 
-    /// Makes the frames ready that have waited for those before them, as far as there is room.
+    /// Makes the frames ready that have waited for those before them.
     fn follow(&mut self, sender: u8)
+        ensures follow { Follow sender self.old self.new }
+        ensures none_lost { NoneLost self.old self.new }
         ensures stays { StaysReady self.old.ready.items self.new.ready.items }
         ensures only { NoMore (of_peers self.old) (of_peers self.new) }
     {
-        for _ in 0..MOST_FOLLOWING {
-            if !has_place(&self.ready) {
-                return;
-            }
-            let Some(datagram) = self.early.take_next(sender) else {
-                return;
-            };
+        while let Some(datagram) = self.early.take_next(sender) {
             self.ready.push_back_reserved(datagram);
         }
     }
@@ -167,11 +183,4 @@ impl FromPeers {
         self.early.note_expected(of, epoch, number, &mut self.room);
         self.follow(of);
     }
-}
-
-/// Returns whether one more datagram can be ready without more memory.
-fn has_place(ready: &VecDeque<Datagram>) -> bool
-    ensures { IsTrue result ↔ (deque_len ready.now < deque_capacity ready.now) }
-{
-    ready.len() < ready.capacity()
 }

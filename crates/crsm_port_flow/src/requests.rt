@@ -1,11 +1,11 @@
 //! Requests that wait until the node has room for them.
 
-ghost use Rattle.std.specs.Prelude.{◌≡◌, ◌⊎◌, ◌++◌, ◌∷◌, [], true, false, None, Some, IfOk, IfSome, OnOk, OnErr};
+ghost use Rattle.std.specs.Prelude.{◌≡◌, ◌⊎◌, ◌++◌, ◌∷◌, ◌≤◌, [], length, true, false, None, Some, IfOk, IfSome, IsErrOf, OnOk, OnErr};
 ghost use Rattle.crsm_port_flow.specs.Order.{HasNoRoom};
 ghost use Rattle.crsm_port_flow.specs.Turns.{AreInTime, IsAnswered, IsOldestYoung, IsOver, IsSince, IsUnderWay, OthersStay, TakesFirst, reading_of};
 
 use crate::commands::Command;
-use crate::datagram::Datagram;
+use crate::datagram::{Datagram, Loss};
 use crate::time::is_recent;
 use crsm_base::NoMemory;
 use indexmap::IndexMap;
@@ -78,7 +78,8 @@ impl Requests {
 
     /// Returns what becomes of a received request.
     pub(crate) fn fate(&self, command: Command, now: u64) -> RequestFate
-        ensures { result ≡ RequestFate.IsUnderWay → IsUnderWay command now self.now.waits.entries self.now.unanswered.entries }
+        ensures repeat { result ≡ RequestFate.IsUnderWay → IsUnderWay command now self.now.waits.entries self.now.unanswered.entries }
+        ensures full { result ≡ RequestFate.HasNoRoom → 1_280 ≤ length self.now.waiting.items }
     {
         if self.is_under_way(command, now) {
             RequestFate::IsUnderWay
@@ -103,15 +104,19 @@ impl Requests {
         command: Command,
         datagram: Datagram,
         now: u64,
-    ) -> Result<(), NoMemory>
+    ) -> Result<(), Loss>
+        ensures full { IsErrOf result Loss.Dropped → ⊥ }
         ensures last { OnOk result (self.new.waiting.items ≡ self.old.waiting.items ++ (record { command = command; datagram = datagram; since = now }) ∷ []) }
         ensures same { OnErr result (self.new.waiting.items ≡ self.old.waiting.items) }
     {
-        self.waiting.push_back(Waiting {
+        let request = Waiting {
             command,
             datagram,
             since: now,
-        })?;
+        };
+        if self.waiting.push_back(request).is_err() {
+            return Err(Loss::NoMemory);
+        }
         // Without memory for this its repeats wait, too.
         let _ = self.waits.insert(command, now);
         Ok(())

@@ -1,4 +1,3 @@
-use Rattle.std.proofs.Common.{sym}
 use Rattle.std.proofs.lemmas.Option.{none-some}
 use Rattle.crsm_port_flow.proofs.clients.Clients.note_answered.Goals as goal
 

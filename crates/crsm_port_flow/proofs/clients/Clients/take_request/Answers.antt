@@ -6,13 +6,13 @@ use Rattle.crsm_port_flow.specs.declared.requests.Waiting.{Waiting}
 use Rattle.crsm_port_flow.proofs.clients.Clients.take_request.Goals as goal
 
 pub returns-in_ok-datagram-in-Waits-clause-taken : goal.returns-in_ok-datagram-in-Waits-clause-taken
-returns-in_ok-datagram-in-Waits-clause-taken c = λ is_request.
+returns-in_ok-datagram-in-Waits-clause-taken c =
     let r : Waiting = record { command = c.in-Some.command; datagram = c.in_ok-datagram-in-Waits.datagram; since = c.args.now } in
-    ok_map c.keep.result _ _ (λ more. inl (r, is_request, c.in-Some.ensures.named, c.in_ok-datagram-in-Waits.ensures, refl, more)) c.keep.ensures.last
+    ok_map c.keep.result _ _ (λ more. inl (r, c.requires, c.in-Some.ensures.named, c.in_ok-datagram-in-Waits.ensures.kept, refl, more)) c.keep.ensures.last
 
 pub returns-in_ok-datagram-in-Waits-clause-only : goal.returns-in_ok-datagram-in-Waits-clause-only
 returns-in_ok-datagram-in-Waits-clause-only c =
     let r : Waiting = record { command = c.in-Some.command; datagram = c.in_ok-datagram-in-Waits.datagram; since = c.args.now } in
     let old = c.args.self.now in
     let new : Clients = record old { requests = c.keep.new.self } in
-    request_kept c.args.from c.args.bytes.now r old new c.keep.result c.in_ok-datagram-in-Waits.ensures refl c.keep.ensures.last c.keep.ensures.same
+    request_kept c.args.from c.args.bytes.now r old new c.keep.result c.in_ok-datagram-in-Waits.ensures.kept refl c.keep.ensures.last c.keep.ensures.same

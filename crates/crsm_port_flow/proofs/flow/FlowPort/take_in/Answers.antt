@@ -1,5 +1,15 @@
-use Rattle.std.proofs.Common.{inl}
+use Rattle.std.proofs.Common.{Err, ap, inl, subst, take}
+use Rattle.crsm_port_flow.proofs.Losing.{lost_as}
+use Rattle.crsm_port_flow.specs.Losses.{CountsLoss}
+use Rattle.crsm_port_flow.specs.declared.datagram.Losses.{Losses}
 use Rattle.crsm_port_flow.proofs.flow.FlowPort.take_in.Goals as goal
 
-pub returns-else-not-takes-clause-comes : goal.returns-else-not-takes-clause-comes
-returns-else-not-takes-clause-comes g c = inl (c.takes.ensures.comes c.if-not-takes.false)
+pub returns-clause-comes : goal.returns-clause-comes
+returns-clause-comes g c =
+    let s = c.args.self.now in
+    let loss = c.in-Err.loss in
+    let counted = subst (λ (before : Losses). CountsLoss loss before c.count.new.self) c.takes.ensures.lost c.count.ensures in
+    lost_as c.args.from (take c.args.len s.room.items) s.now s.hearing.peers.items s.inbound c.takes.new.self.inbound loss s.lost c.count.new.self (λ is. c.in-Err.ensures.dropped (ap Err is)) counted
+
+pub returns-in_default-clause-comes : goal.returns-in_default-clause-comes
+returns-in_default-clause-comes g c = inl c.in_default.ensures.comes

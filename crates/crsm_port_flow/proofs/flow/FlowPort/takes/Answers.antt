@@ -1,9 +1,10 @@
-use Rattle.std.proofs.Common.{◌≡◌, ◌∙◌, ℕ, List, arith, inl, inr, refl, subst, sym, take}
+use Rattle.std.proofs.Common.{◌≡◌, ℕ, List, arith, inl, inr, refl, subst, take}
 use Rattle.std.proofs.lemmas.Grind.{common_steps}
-use Rattle.crsm_port_flow.proofs.Earlies.{ok_gives}
+use Rattle.crsm_port_flow.proofs.Earlies.{ok_map}
 use Rattle.crsm_port_flow.proofs.Keepings.{clients_kept, peers_kept}
 use Rattle.crsm_port_flow.specs.Kept.{KeepsOnly, kept_in}
-use Rattle.crsm_port_flow.specs.Taken.{Comes, IsTaken}
+use Rattle.crsm_port_flow.specs.Lost.{MayDrop}
+use Rattle.crsm_port_flow.specs.Taken.{Comes, IsAsked, IsTaken}
 use Rattle.crsm_port_flow.specs.declared.inbound.Inbound.{Inbound}
 use Rattle.crsm_port_flow.proofs.flow.FlowPort.takes.Goals as goal
 
@@ -22,27 +23,40 @@ returns-in-Stranger-clause-kept g c =
     subst (λ (b : List ℕ). KeepsOnly c.args.from b (kept_in i) (kept_in j)) same (clients_kept c.args.from c.in-Some.bytes.now i j refl c.take_in-in-Stranger.ensures.only)
 
 pub returns-in-Open-clause-comes : goal.returns-in-Open-clause-comes
-returns-in-Open-clause-comes g c = λ ok.
+returns-in-Open-clause-comes g c =
     let s = c.args.self.now in
     let i = s.inbound in
     let j : Inbound = record i { peers = c.take_in.new.self } in
     let same : c.in-Some.bytes.now ≡ take c.args.len s.room.items = grind (arith, common_steps, c.in-Some.ensures.lookup, c.deref.ensures.value) in
-    let taken = ok_gives c.take_in.result (IsTaken c.args.from c.in-Some.bytes.now i.peers j.peers) c.take_in.ensures.taken (sym c.is_ok.ensures.value ∙ ok) in
-    subst (λ (b : List ℕ). Comes c.args.from b s.now s.hearing.peers.items i j) same (inl (c.in-Open.ensures.peer refl, taken, refl))
+    ok_map c.take_in.result (IsTaken c.args.from c.in-Some.bytes.now i.peers j.peers) _
+    (λ taken. subst (λ (b : List ℕ). Comes c.args.from b s.now s.hearing.peers.items i j) same (inl (c.in-Open.ensures.peer refl, taken, refl))) c.take_in.ensures.taken
+
+pub returns-in-Open-clause-dropped : goal.returns-in-Open-clause-dropped
+returns-in-Open-clause-dropped g c = λ err.
+    let s = c.args.self.now in
+    let same : c.in-Some.bytes.now ≡ take c.args.len s.room.items = grind (arith, common_steps, c.in-Some.ensures.lookup, c.deref.ensures.value) in
+    subst (λ (b : List ℕ). MayDrop c.args.from b s.hearing.peers.items s.inbound) same (inl (c.in-Open.ensures.peer refl, c.take_in.ensures.dropped err))
 
 pub returns-in-Stranger-clause-comes : goal.returns-in-Stranger-clause-comes
-returns-in-Stranger-clause-comes g c = λ yes.
+returns-in-Stranger-clause-comes g c =
     let s = c.args.self.now in
     let i = s.inbound in
     let j : Inbound = record i { clients = c.take_in-in-Stranger.new.self } in
     let same : c.in-Some.bytes.now ≡ take c.args.len s.room.items = grind (arith, common_steps, c.in-Some.ensures.lookup, c.deref.ensures.value) in
-    subst (λ (b : List ℕ). Comes c.args.from b s.now s.hearing.peers.items i j) same (inr (inl (c.in-Stranger.ensures.stranger refl, c.take_in-in-Stranger.ensures.taken yes, refl)))
+    ok_map c.take_in-in-Stranger.result (IsAsked c.args.from c.in-Some.bytes.now s.now i.clients j.clients) _
+    (λ taken. subst (λ (b : List ℕ). Comes c.args.from b s.now s.hearing.peers.items i j) same (inr (inl (c.in-Stranger.ensures.stranger refl, taken, refl)))) c.take_in-in-Stranger.ensures.taken
+
+pub returns-in-Stranger-clause-dropped : goal.returns-in-Stranger-clause-dropped
+returns-in-Stranger-clause-dropped g c = λ err.
+    let s = c.args.self.now in
+    let same : c.in-Some.bytes.now ≡ take c.args.len s.room.items = grind (arith, common_steps, c.in-Some.ensures.lookup, c.deref.ensures.value) in
+    subst (λ (b : List ℕ). MayDrop c.args.from b s.hearing.peers.items s.inbound) same (inr (c.in-Stranger.ensures.stranger refl, c.take_in-in-Stranger.ensures.dropped err))
 
 pub returns-in-Closed-clause-comes : goal.returns-in-Closed-clause-comes
-returns-in-Closed-clause-comes g c = λ _. inr (inr (refl, inr (c.in-Closed.ensures.closed refl)))
+returns-in-Closed-clause-comes g c = inr (inr (refl, inr (c.in-Closed.ensures.closed refl)))
 
 pub returns-in-Says-clause-comes : goal.returns-in-Says-clause-comes
-returns-in-Says-clause-comes g c = λ _.
+returns-in-Says-clause-comes g c =
     let s = c.args.self.now in
     let same : c.in-Some.bytes.now ≡ take c.args.len s.room.items = grind (arith, common_steps, c.in-Some.ensures.lookup, c.deref.ensures.value) in
     subst (λ (b : List ℕ). Comes c.args.from b s.now s.hearing.peers.items s.inbound s.inbound) same (inr (inr (refl, inl (c.in-Says.ensures.says refl))))

@@ -1,9 +1,19 @@
+use Rattle.std.proofs.Common.{arith, length}
 use Rattle.crsm_port_flow.proofs.Earlies.{peers_rest}
-use Rattle.crsm_port_flow.specs.declared.peers.FromPeers.{FromPeers}
+use Rattle.crsm_port_flow.specs.Rooms.{sizes_of}
 use Rattle.crsm_port_flow.proofs.peers.FromPeers.note_expected.Goals as goal
+
+pub invariant_of-self : goal.invariant_of-self
+invariant_of-self c =
+    let p = c.args.self.now in
+    record {
+      counted = c.note_expected.ensures.room (length p.ready.items) (sizes_of p.ready.items) p.counted;
+      few = omega (arith, c.note_expected.ensures.no_more, p.few);
+      reserved = p.reserved;
+    }
 
 pub returns-clause-only : goal.returns-clause-only
 returns-clause-only c =
     let p = c.args.self.now in
-    let q : FromPeers = record p { early = c.note_expected.new.self } in
-    λ a b h. peers_rest p q (λ x y is. is) c.note_expected.ensures a b (c.follow.ensures.only a b h)
+    let now = c.note_expected.new.self.frames.items in
+    λ a b h. peers_rest p.ready.items p.ready.items p.early.frames.items now (λ x y is. is) c.note_expected.ensures.only a b (c.follow.ensures.only a b h)

@@ -1,0 +1,35 @@
+use Rattle.std.proofs.Common.{◌≡◌, ◌-◌, Option, List, Some, None, ap, arith, refl, slice_index_or, subst, sym}
+use Rattle.crsm_port_flow.proofs.Earlies.{counts_fewer, counts_same, set_none}
+use Rattle.crsm_port_flow.specs.Rooms.{Counts, size_of}
+use Rattle.crsm_port_flow.specs.declared.datagram.Room.{Room}
+use Rattle.crsm_port_flow.specs.declared.early.Frame.{Frame}
+use Rattle.crsm_port_flow.proofs.early.Early.forget.Goals as goal
+use Rattle.crsm_port_flow.proofs.early.Early.forget.Goals.{in-Some, in_default}
+
+pub loop-number-preserved : goal.loop-number-preserved
+loop-number-preserved c =
+    let inv = c.loop-number.invariant in
+    let before = c.loop-number.room in
+    let room = c.match-take_below.room in
+    let old = c.loop-number.self.frames.items in
+    let new = c.take_below.new.frames.items in
+    elim c.match-take_below.branch [
+      | in-Some w ↦
+          let (one, gone) = w.in-Some.ensures.gone in
+          let d = w.in-Some.datagram in
+          let back : (room.count ≡ before.count - 1) × (room.size ≡ before.size - size_of d) = subst (λ (r : Room). (r.count ≡ before.count - 1) × (r.size ≡ before.size - size_of d)) (sym w.room-is) w.take_back.ensures in
+          record {
+            only = λ k f at. inv.only k f (set_none old c.place_of.result k f (subst (λ (xs : List (Option Frame)). slice_index_or xs k None ≡ Some f) gone at));
+            room = λ others sizes counts. counts_fewer before room d old new others sizes one back (inv.room others sizes counts);
+            no_more = omega (arith, back.0);
+            links = inv.links;
+          }
+      | in_default w ↦
+          let same = w.in_default.ensures.none refl in
+          record {
+            only = λ k f at. inv.only k f (subst (λ (xs : List (Option Frame)). slice_index_or xs k None ≡ Some f) same at);
+            room = λ others sizes counts. subst (λ (r : Room). Counts r others sizes new) (sym w.room-is) (counts_same before old new others sizes same (inv.room others sizes counts));
+            no_more = omega (arith, ap (λ (r : Room). r.count) w.room-is);
+            links = inv.links;
+          }
+    ]
