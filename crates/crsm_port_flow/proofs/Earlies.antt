@@ -1,16 +1,16 @@
 -- Frames that wait, and datagrams of peers that are ready.
-use Rattle.std.proofs.Common.{◌≡◌, ◌∙◌, ◌+◌, ◌-◌, ◌<◌, ◌++◌, ℕ, zero, suc, List, [], ◌∷◌, length, set, refl, sym, ap, subst, arith, inl, inr, Option, Some, None, Vec, Global, Result, Ok, Err, length-append}
+use Rattle.std.proofs.Common.{◌≡◌, ◌∙◌, ◌-◌, ◌<◌, ◌++◌, ℕ, zero, suc, List, [], ◌∷◌, length, set, refl, sym, ap, subst, arith, inl, inr, Option, Some, None, Vec, Global, Result, Ok, Err}
 use Rattle.std.proofs.lemmas.List.{append_assoc, get_or-set_same}
 use Rattle.std.proofs.lemmas.List.Elements.{Contains-append_left, Contains-append_right}
-use Rattle.std.proofs.lemmas.List.Sums.{sum_by-cons, sum_by_push, sum_by-set}
+use Rattle.std.proofs.lemmas.List.Sums.{sum_by-cons}
 use Rattle.std.proofs.lemmas.Option.{none-some}
 use Rattle.std.specs.List.{sum_by}
 use Rattle.std.specs.Prelude.{◌⊎◌, Contains, OnOk, slice_get, slice_index_or}
 use Rattle.crsm_port.specs.Passing.{Datagrams, NoMore, either}
-use Rattle.crsm_port_flow.proofs.Keepings.{push_cases, set_or_old}
-use Rattle.crsm_port_flow.specs.Early.{AreFrames, Expects, IsEarlyIn, KeepsSome, NoneNext, OneMoreWaits, TakesNext, Waits, WaitsAs, after, place_of}
+use Rattle.crsm_port_flow.proofs.Keepings.{push_cases}
+use Rattle.crsm_port_flow.specs.Early.{AreFrames, Expects, IsEarlyIn, KeepsSome, NoneNext, TakesNext, Waits, WaitsAs, after, place_of}
 use Rattle.crsm_port_flow.specs.Kept.{KeepsOnly, early_in, packet_of, ready_in}
-use Rattle.crsm_port_flow.specs.Rooms.{Counts, IsOneMore, bytes_at, frames_at, size_of, sizes_of}
+use Rattle.crsm_port_flow.specs.Rooms.{Counts, IsOneMore, size_of}
 use Rattle.crsm_port_flow.specs.Taken.{Is, IsMadeReady, StaysReady}
 use Rattle.crsm_port_flow.specs.declared.datagram.Datagram.{Datagram}
 use Rattle.crsm_port_flow.specs.declared.datagram.Room.{Room}
@@ -50,25 +50,6 @@ contains_place xs f (k, lt, is) = (k, item_any xs k None (Some f) lt ∙ is)
 pub keeps_contains : (xs ys : List (Option Frame)) → KeepsSome xs ys → (f : Frame) → Contains ys (Some f) → Contains xs (Some f)
 keeps_contains xs ys keeps f has = let w = contains_place ys f has in place_contains xs w.0 f (keeps w.0 f w.1)
 
-pub place_within : (xs : List (Option Frame)) (k : ℕ) (f : Frame) → slice_index_or xs k None ≡ Some f → k < length xs
-place_within [] k f is = absurd (none-some f is)
-place_within (x ∷ xs) zero f is = omega arith
-place_within (x ∷ xs) (suc k) f is = omega (arith, place_within xs k f is)
-
--- a free place is filled
-pub set_stays : (xs : List (Option Frame)) (k : ℕ) (y : Option Frame) (f : Frame) → slice_index_or xs k None ≡ None → Contains xs (Some f) → Contains (set xs k y) (Some f)
-set_stays [] k y f none (i, lt, is) = absurd (omega (arith, lt))
-set_stays (x ∷ xs) zero y f none (zero, lt, is) = absurd (none-some f (sym none ∙ is))
-set_stays (x ∷ xs) zero y f none (suc i, lt, is) = (suc i, omega (arith, lt), is)
-set_stays (x ∷ xs) (suc k) y f none (zero, lt, is) = (zero, omega arith, is)
-set_stays (x ∷ xs) (suc k) y f none (suc i, lt, is) = let w = set_stays xs k y f none (i, omega (arith, lt), is) in (suc w.0, omega (arith, w.1), w.2)
-
-pub set_one : (xs : List (Option Frame)) (k : ℕ) (g : Frame) → OneMoreWaits g.datagram xs (set xs k (Some g))
-set_one xs k g f has = elim (set_or_old xs k (Some g) (Some f) has) [
-  | inl w ↦ inl w
-  | inr e ↦ inr (ap (λ (x : Frame). x.datagram) (frame_same f g e))
-]
-
 pub set_at : (xs : List (Option Frame)) (k place : ℕ) (y : Option Frame) → k ≡ place → k < length xs → slice_index_or (set xs k y) place None ≡ y
 set_at xs k place y same lt = subst (λ (i : ℕ). slice_index_or (set xs k y) i None ≡ y) same (get_or-set_same xs k y None lt)
 
@@ -90,9 +71,6 @@ set_rest (x ∷ xs) (suc k) g at f (suc i, lt, is) = elim (set_rest xs k g at f 
   | inr e ↦ inr e
 ]
 
-pub keeps_some_then : (xs ys zs : List (Option Frame)) → KeepsSome xs ys → KeepsSome ys zs → KeepsSome xs zs
-keeps_some_then xs ys zs one other k f at = one k f (other k f at)
-
 pub keeps_some_same : (xs ys : List (Option Frame)) → ys ≡ xs → KeepsSome xs ys
 keeps_some_same xs ys same k f at = subst (λ (zs : List (Option Frame)). slice_index_or zs k None ≡ Some f) same at
 
@@ -112,21 +90,6 @@ none_sums f [] zeroed keeps = refl
 none_sums f (None ∷ xs) zeroed keeps = omega (arith, sum_by-cons f None xs, zeroed, none_sums f xs zeroed (λ k g at. keeps (suc k) g at))
 none_sums f (Some g ∷ xs) zeroed keeps = absurd (none-some g (keeps zero g refl))
 
-pub one_more : (xs : List (Option Frame)) (k : ℕ) (g : Frame) → k < length xs → slice_index_or xs k None ≡ None → IsOneMore g.datagram xs (set xs k (Some g))
-one_more xs k g lt none = (added frames_at refl, added bytes_at refl)
-  where
-    added : (f : Option Frame → ℕ) → f None ≡ 0 → sum_by f (set xs k (Some g)) ≡ sum_by f xs + f (Some g)
-    added f zeroed = omega (arith, sum_by-set f xs k (Some g) None lt, ap f none, zeroed)
-
-pub one_fewer : (xs : List (Option Frame)) (k : ℕ) (g : Frame) → slice_index_or xs k None ≡ Some g → IsOneMore g.datagram (set xs k None) xs
-one_fewer xs k g at = (gone frames_at refl, gone bytes_at refl)
-  where
-    gone : (f : Option Frame → ℕ) → f None ≡ 0 → sum_by f xs ≡ sum_by f (set xs k None) + f (Some g)
-    gone f zeroed = omega (arith, sum_by-set f xs k None None (place_within xs k g at), ap f at, zeroed)
-
-pub fewer_as : (d : Datagram) (g : Frame) (old new : List (Option Frame)) → g.datagram ≡ d → IsOneMore g.datagram old new → IsOneMore d old new
-fewer_as d g old new same one = subst (λ (x : Datagram). IsOneMore x old new) same one
-
 -- one that waited is taken back
 pub counts_fewer : (room room_now : Room) (d : Datagram) (old new : List (Option Frame)) (others sizes : ℕ) → IsOneMore d new old → (room_now.count ≡ room.count - 1) × (room_now.size ≡ room.size - size_of d) → Counts room others sizes old
     → Counts room_now others sizes new
@@ -134,14 +97,6 @@ counts_fewer room room_now d old new others sizes one back counts = (omega (arit
 
 pub counts_same : (room : Room) (old new : List (Option Frame)) (others sizes : ℕ) → new ≡ old → Counts room others sizes old → Counts room others sizes new
 counts_same room old new others sizes same counts = subst (λ (xs : List (Option Frame)). Counts room others sizes xs) (sym same) counts
-
--- one that waited is ready
-pub counts_moved : (room : Room) (d : Datagram) (old new : List (Option Frame)) (ready ready_now : List Datagram) → IsOneMore d new old → ready_now ≡ ready ++ d ∷ [] → Counts room (length ready) (sizes_of ready) old
-    → Counts room (length ready_now) (sizes_of ready_now) new
-counts_moved room d old new ready ready_now one more counts =
-    let long : length ready_now ≡ length ready + 1 = ap length more ∙ length-append ready (d ∷ []) in
-    let size : sizes_of ready_now ≡ sizes_of ready + size_of d = ap sizes_of more ∙ sum_by_push size_of ready d in
-    (omega (arith, long, one.0, counts.0), omega (arith, size, one.1, counts.1))
 
 -- ---- the frame that is expected next
 
@@ -188,11 +143,6 @@ module _ (from : ℕ) (d : Datagram) (links links_now : List Link) (frames frame
 
   pub takes_was : (f : Frame) × Contains frames (Some f) × (f.datagram ≡ d)
   takes_was = let (link, _, (f, at, _, _, is), _, _) = takes in (f, place_contains frames (place_of from link.next) f at, is)
-
-  pub takes_one : IsOneMore d frames_now frames
-  takes_one =
-      let (link, _, (f, at, _, _, is), _, gone) = takes in
-      subst (λ (xs : List (Option Frame)). IsOneMore d xs frames) (sym gone) (fewer_as d f (set frames (place_of from link.next) None) frames is (one_fewer frames (place_of from link.next) f at))
 
   pub takes_rest : (f : Frame) → Contains frames (Some f) → Contains frames_now (Some f) ⊎ (f.datagram ≡ d)
   takes_rest f has =

@@ -339,15 +339,3 @@ request_kept from bytes r c e (Err x) is operate more same a b has = elim has [
   | inl waits ↦ inr (inl (subst (λ (rs : List Waiting). waiting_in rs a b) same waits))
   | inr latest ↦ inr (inr (subst (λ (o : Option Operate). operate_in o a b) operate latest))
 ]
-
--- ---- lists whose items are noted
-
-pub set_or_old : {X : Type 0} (xs : List X) (i : ℕ) (x y : X) → Contains (set xs i x) y → Contains xs y ⊎ (y ≡ x)
-set_or_old [] i x y (k, lt, is) = inl (k, lt, is)
-set_or_old (z ∷ xs) zero x y (zero, lt, is) = inr (sym is)
-set_or_old (z ∷ xs) zero x y (suc k, lt, is) = inl (suc k, lt, is)
-set_or_old (z ∷ xs) (suc i) x y (zero, lt, is) = inl (zero, omega arith, is)
-set_or_old (z ∷ xs) (suc i) x y (suc k, lt, is) = elim (set_or_old xs i x y (k, omega (arith, lt), is)) [
-  | inl w ↦ inl (suc w.0, omega (arith, w.1), w.2)
-  | inr e ↦ inr e
-]
