@@ -4,6 +4,8 @@ use Rattle.std.proofs.Math.Logic.{∥∥₁_elim, ∥∥₁_map}
 use Rattle.std.specs.List.{AllByRecursion}
 use Rattle.crsm_base.specs.declared.rec.Rec.{Rec}
 use Rattle.crsm_base.specs.Records.{FitsRec, body_bytes}
+use Rattle.crsm_core.specs.Core.{CoreAwaits}
+use Rattle.crsm_core.specs.declared.replica.Core.{Core}
 use Rattle.crsm_shell.proofs.Boots.{boot_lines}
 use Rattle.crsm_shell.proofs.Propositions.{records_prop}
 use Rattle.crsm_shell.proofs.begin.begin_on.Goals as goal
@@ -14,18 +16,20 @@ begin-requires c = λ _.
       me = one.me;
       n = one.n;
       log = one.log;
-      awaits = (c.in_ok-core.ensures.awaits one.me one.n one.log one.is).waits;
+      awaits = (subst (λ (core : Core). CoreAwaits core one.me one.n one.log) (sym c.deref_mut.ensures.value) (c.in_ok-core.ensures.awaits one.me one.n one.log one.is)).waits;
       room = c.in_ok-core.ensures.room one.me one.n one.log one.is;
     })
 
 pub write_records-requires : goal.write_records-requires
 write_records-requires c =
     subst (AllByRecursion FitsRec) (sym c.as_slice.ensures) (∥∥₁_elim c.requires (records_prop c.in_ok-batch.batch.records) (λ one.
-    (c.in_ok-batch.ensures.ruled one.me one.n one.log (c.in_ok-core.ensures.awaits one.me one.n one.log one.is) (c.in_ok-core.ensures.room one.me one.n one.log one.is)).0.records))
+    let awaits = subst (λ (core : Core). CoreAwaits core one.me one.n one.log) (sym c.deref_mut.ensures.value) (c.in_ok-core.ensures.awaits one.me one.n one.log one.is) in
+    (c.in_ok-batch.ensures.ruled one.me one.n one.log awaits (c.in_ok-core.ensures.room one.me one.n one.log one.is)).0.records))
 
 pub returns-clause-begins : goal.returns-clause-begins
 returns-clause-begins c me n log is =
-    let a = c.in_ok-batch.ensures.ruled me n log (c.in_ok-core.ensures.awaits me n log is) (c.in_ok-core.ensures.room me n log is) in
+    let awaits = subst (λ (core : Core). CoreAwaits core me n log) (sym c.deref_mut.ensures.value) (c.in_ok-core.ensures.awaits me n log is) in
+    let a = c.in_ok-batch.ensures.ruled me n log awaits (c.in_ok-core.ensures.room me n log is) in
     record {
       core = a.1;
       body = c.in_ok-write_records.ensures.behind ∙ ap (λ (b : List ℕ). b ++ body_bytes c.as_slice.result.now) c.new-body.ensures
