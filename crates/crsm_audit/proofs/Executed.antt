@@ -27,6 +27,6 @@ pub executed_there : (ledger : Ledger) (place : ℕ) → IsOfSome ledger → pla
     → ((me n : ℕ) (log : Log) → LedgerStands me n ledger log → None ≡ option_map entry_bytes (slice_get (executed log) place)) → ⊥
 unfolding executed_count
 executed_there ledger place o less says =
-    let count : length ledger.history.spelt ≡ length (executed o.log) = ap length o.says.says.executed.spelt ∙ length-map (executed o.log) entry_bytes in
+    let count : length ledger.held.history.spelt ≡ length (executed o.log) = ap length o.says.says.executed.spelt ∙ length-map (executed o.log) entry_bytes in
     let x = some_at (executed o.log) place (omega (arith, count, less)) in
     none-some (entry_bytes x.0) (says o.me o.n o.log o.says ∙ ap (option_map entry_bytes) x.1)
