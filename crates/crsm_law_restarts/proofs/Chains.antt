@@ -6,7 +6,7 @@ use Rattle.std.proofs.lemmas.Bool.{cases_eq}
 use Rattle.std.proofs.lemmas.List.{append-nil}
 use Rattle.crsm_spec.specs.Log.{Log}
 use Rattle.crsm_spec.specs.Step.{boot}
-use Rattle.crsm_spec_process.specs.Lives.{Life, kept_turns}
+use Rattle.crsm_spec_process.specs.Lives.{HaveFates, Life, before_last, kept_turns}
 use Rattle.crsm_spec_process.specs.Turns.{replica_after}
 use Rattle.crsm_disk.specs.Meaning.{LeavesOnly}
 use Rattle.crsm_ledger.specs.Recovered.{AreKept}
@@ -107,7 +107,7 @@ module _ {S : Type 0} (at : S → Devices) (n k : ℕ) where
       -- a run that was not booted, whose boot is there
       alone : (before file : List ℕ) (e : IsLedTo xs before) (log : Log) → HasLog x.order.me x.order.n before log → (IsFull before (boot_body x.order.me x.order.n log) → ⊥) →
           reading file ≡ found (bodies_of before ++ boot_body x.order.me x.order.n log ∷ []) → LeadsTo n k e.bodies (boot_alone x.order.me log) file
-      unfolding HasLog boot_alone left_by kept_turns replica_after
+      unfolding HasLog boot_alone left_by kept_turns replica_after HaveFates before_last
       alone before file e log has room is =
           let same : bodies_of before ≡ e.bodies = ap bodies_in e.reads in
           let body = boot_body x.order.me x.order.n log in
