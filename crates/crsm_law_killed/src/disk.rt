@@ -1,6 +1,6 @@
 //! `StoppingDisk`: a disk that does nothing from some call on.
 
-ghost use Rattle.std.specs.Prelude.{◌≡◌, ◌-◌};
+ghost use Rattle.std.specs.Prelude.{◌≡◌};
 ghost use Rattle.crsm_law_killed.specs.Stopping.{disk_with};
 
 use crate::calls::{counted, hand_on};
@@ -44,55 +44,37 @@ impl<D: Drop> StoppingDisk<D> {
 impl<D: Disk> Disk for StoppingDisk<D> {
     ghost meaning = { λ d. disk_with d.faults d.renewed (D.meaning d.inner) };
 
-    fn len(&mut self) -> Result<u64, Failed>
-        ensures counts { self.new.left ≡ self.old.left - 1 }
-        ensures stops { self.old.left ≡ 0 → self.new.inner ≡ self.old.inner }
-    {
+    fn len(&mut self) -> Result<u64, Failed> {
         hand_on(&mut self.left, &mut self.faults)?;
         let answer = self.inner.len();
         counted(&mut self.faults, answer)
     }
 
-    fn read_at(&mut self, at: u64, buf: &mut [u8]) -> Result<usize, Failed>
-        ensures counts { self.new.left ≡ self.old.left - 1 }
-        ensures stops { self.old.left ≡ 0 → self.new.inner ≡ self.old.inner }
-    {
+    fn read_at(&mut self, at: u64, buf: &mut [u8]) -> Result<usize, Failed> {
         hand_on(&mut self.left, &mut self.faults)?;
         let answer = self.inner.read_at(at, buf);
         counted(&mut self.faults, answer)
     }
 
-    fn write_at(&mut self, at: u64, bytes: &[u8]) -> Result<(), Failed>
-        ensures counts { self.new.left ≡ self.old.left - 1 }
-        ensures stops { self.old.left ≡ 0 → self.new.inner ≡ self.old.inner }
-    {
+    fn write_at(&mut self, at: u64, bytes: &[u8]) -> Result<(), Failed> {
         hand_on(&mut self.left, &mut self.faults)?;
         let answer = self.inner.write_at(at, bytes);
         counted(&mut self.faults, answer)
     }
 
-    fn cut(&mut self, len: u64) -> Result<(), Failed>
-        ensures counts { self.new.left ≡ self.old.left - 1 }
-        ensures stops { self.old.left ≡ 0 → self.new.inner ≡ self.old.inner }
-    {
+    fn cut(&mut self, len: u64) -> Result<(), Failed> {
         hand_on(&mut self.left, &mut self.faults)?;
         let answer = self.inner.cut(len);
         counted(&mut self.faults, answer)
     }
 
-    fn sync(&mut self) -> Result<(), Failed>
-        ensures counts { self.new.left ≡ self.old.left - 1 }
-        ensures stops { self.old.left ≡ 0 → self.new.inner ≡ self.old.inner }
-    {
+    fn sync(&mut self) -> Result<(), Failed> {
         hand_on(&mut self.left, &mut self.faults)?;
         let answer = self.inner.sync();
         counted(&mut self.faults, answer)
     }
 
-    fn renew(&mut self, at: u64, byte: u8) -> Result<(), Failed>
-        ensures counts { self.new.left ≡ self.old.left - 1 }
-        ensures stops { self.old.left ≡ 0 → self.new.inner ≡ self.old.inner }
-    {
+    fn renew(&mut self, at: u64, byte: u8) -> Result<(), Failed> {
         if self.left > 0 {
             self.left -= 1;
             let answer = self.inner.renew(at, byte);

