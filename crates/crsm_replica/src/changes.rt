@@ -70,7 +70,7 @@ impl ReplicaState {
     #[tactic(auto, unfolding(crate::specs::Replica::ReplicaStands))]
     /// Writes the line of a collection that exceeds its limits: `count` entries of `bytes` bytes together. `NoMemory`
     /// if memory runs out.
-    pub fn refuse_collection(&mut self, count: u64, bytes: u64) -> Result<(), NoMemory>
+    pub fn refuse_collection(&mut self, count: u64, bytes: u128) -> Result<(), NoMemory>
         ensures { Makes (λ x. record x { excess = x.excess ++ Line.TooMany x.replica.me (known x.replica.log) count bytes ∷ [] }) self.old result self.new }
     {
         let epoch = self.known();

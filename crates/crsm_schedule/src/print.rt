@@ -5,7 +5,10 @@ ghost use Rattle.crsm_text.specs.Words.{named, numbers};
 ghost use Rattle.crsm_schedule.specs.Transcript.{line_text, kind_text, state_text};
 
 use crsm_base::{Bytes, Line, NoMemory, SendKind, State};
-use crsm_text::{push_answer, push_hex, push_members, push_named, push_numbered, push_numbers};
+use crsm_text::{
+    push_answer, push_hex, push_members, push_named, push_numbered, push_numbered_wide,
+    push_numbers,
+};
 
 /// Returns the word for a kind of datagram, with a space on both sides.
 fn spaced_kind(kind: SendKind) -> &'static [u8]
@@ -152,8 +155,8 @@ pub fn push_line(out: &mut Bytes, at: u64, line: &Line) -> Result<(), NoMemory>
             count,
             bytes,
         } => {
-            let values = [u64::from(*replica), *epoch, *count, *bytes];
-            push_numbered(out, at, b"toomany", &values, b"\n")
+            let values = [u64::from(*replica), *epoch, *count];
+            push_numbered_wide(out, at, b"toomany", &values, *bytes)
         }
         Line::Send {
             index,

@@ -18,7 +18,7 @@ pub enum PageOutcome {
     /// The page was added and is the last of its replica. A majority is whole and leads to this decision.
     Complete(Decision),
     /// As `Complete`, but the decision's tail exceeds a limit: it has `count` entries of `bytes` bytes together.
-    TooMany { count: u64, bytes: u64 },
+    TooMany { count: u64, bytes: u128 },
 }
 
 /// Returns `More` for the entries above `cursor`, or `Stranger` without a cursor.

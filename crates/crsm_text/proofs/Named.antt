@@ -1,11 +1,21 @@
 -- A word and numbers, one number at a time.
-use Rattle.std.proofs.Common.{◌≡◌, ◌≤◌, ◌-◌, ℕ, length, get_or, take, drop, arith, List, [], ◌∷◌, ◌++◌, decimal, ap, sym, ◌∙◌}
+use Rattle.std.proofs.Common.{◌≡◌, ◌≤◌, ◌-◌, ℕ, length, get_or, take, drop, arith, List, [], ◌∷◌, ◌++◌, decimal, ap, sym, ◌∙◌, append_assoc}
 use Rattle.std.proofs.lemmas.List.{append-nil, take_rest}
 use Rattle.crsm_text.specs.Words.{named, numbers, commas}
 
 pub named_numbers : (name ns : List ℕ) → named name ns ≡ name ++ numbers ns
 named_numbers name [] = sym (append-nil name)
 named_numbers name (n ∷ ns) = ap (λ (s : List ℕ). name ++ 32 ∷ s) (named_numbers (decimal n) ns)
+
+numbers_more : (ns : List ℕ) (n : ℕ) → numbers (ns ++ n ∷ []) ≡ numbers ns ++ 32 ∷ decimal n
+numbers_more [] n = ap (λ (s : List ℕ). 32 ∷ s) (append-nil (decimal n))
+numbers_more (m ∷ ns) n =
+    ap (λ (s : List ℕ). 32 ∷ decimal m ++ s) (numbers_more ns n) ∙ ap (λ (s : List ℕ). 32 ∷ s) (sym (append_assoc (decimal m) (numbers ns) (32 ∷ decimal n)))
+
+pub named_more : (name ns : List ℕ) (n : ℕ) → named name (ns ++ n ∷ []) ≡ named name ns ++ 32 ∷ decimal n
+named_more name ns n =
+    named_numbers name (ns ++ n ∷ []) ∙ ap (λ (s : List ℕ). name ++ s) (numbers_more ns n) ∙ sym (append_assoc name (numbers ns) (32 ∷ decimal n))
+    ∙ ap (λ (s : List ℕ). s ++ 32 ∷ decimal n) (sym (named_numbers name ns))
 
 -- numbers with a comma between each two, as what is written is continued
 abbrev pub commas_after : List ℕ → List ℕ

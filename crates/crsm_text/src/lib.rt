@@ -16,6 +16,7 @@ pub use list::{read_members, read_numbers};
 pub use op::read_op;
 pub use outcome::print_outcome;
 pub use print::{
-    push_answer, push_hex, push_members, push_named, push_number, push_numbered, push_numbers,
+    push_answer, push_hex, push_members, push_named, push_number, push_numbered,
+    push_numbered_wide, push_numbers,
 };
 pub use value::hex_of;

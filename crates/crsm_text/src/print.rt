@@ -1,6 +1,6 @@
 //! Appending text to bytes. Where a function fails, a prefix of the text may have been appended.
 
-ghost use Rattle.std.specs.Prelude.{◌≡◌, ◌≤◌, ◌++◌, ◌∷◌, ◌<◌, ◌+◌, OnOk, decimal, drop, length, slice_index, take};
+ghost use Rattle.std.specs.Prelude.{◌≡◌, ◌≤◌, ◌++◌, ◌∷◌, [], ◌<◌, ◌+◌, OnOk, decimal, drop, length, slice_index, take};
 ghost use Rattle.hex.specs.Hex.{encode_lower, lower_digits};
 ghost use Rattle.crsm_text.specs.Words.{named, numbers, commas};
 ghost use Rattle.crsm_text.specs.Values.{value_text, option_text, answer_text};
@@ -113,6 +113,25 @@ pub fn push_numbered(
     let word = write_text(name, &mut row, at);
     let begin = write_digits(number, &mut row, word - 1);
     out.append(&row[begin..])
+}
+
+/// Appends a line of a number, a word, the values and a last number of up to 128 bits, with a space before the word and
+/// before each value. `NoMemory` if memory runs out.
+pub fn push_numbered_wide(
+    out: &mut Bytes,
+    number: u64,
+    name: &[u8],
+    values: &[u64],
+    last: u128,
+) -> Result<(), NoMemory>
+    requires name { length name.now ≤ 8 }
+    requires values { length values.now ≤ 8 }
+    ensures { OnOk result (out.new ≡ out.old ++ (decimal number ++ 32 ∷ (named name.now (values.now ++ last ∷ []) ++ 10 ∷ []))) }
+{
+    push_numbered(out, number, name, values, b" ")?;
+    let mut buffer = Buffer::new();
+    out.append(buffer.format(last).as_bytes())?;
+    out.push(b'\n')
 }
 
 // The digits of a piece are formatted on the stack and appended by a single call. The piece is padded with zeros, and
