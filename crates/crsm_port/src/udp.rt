@@ -17,7 +17,7 @@ use std::time::Duration;
 // Maximum times in milliseconds that a receive waits for a datagram.
 const WAIT_MILLIS: u64 = 1;
 
-const LONG_WAIT_MILLIS: u64 = 5;
+const LONG_WAIT_MILLIS: u64 = 10;
 
 // Whether the next receive waits for a datagram.
 #[derive(Clone, Copy, PartialEq)]
@@ -87,8 +87,8 @@ pub struct UdpPort {
 
 impl UdpPort {
     /// Binds a socket to an address (IPv4 x 65,536 + port; with port 0 the system picks a free one), or returns the
-    /// system's error. A receive waits up to a millisecond for a datagram, up to 5 after `wait_long`, and not at all after
-    /// `poll_soon`.
+    /// system's error. A receive waits up to a millisecond for a datagram, up to 10 after `wait_long`, and not at all
+    /// after `poll_soon`.
     pub fn bind(alloc: Global, net: &impl Net, address: u64) -> io::Result<UdpPort>
         requires { address < 2 ^ 48 }
     {
