@@ -39,9 +39,10 @@ const MOST_TAKEN: usize = 2_048;
 /// acknowledged, and a receiver acknowledges each frame and accepts none after a missing one; over a socket with a
 /// short buffer this crowds out new datagrams. Therefore:
 ///
-/// - a frame is not retransmitted within 20 milliseconds, and then within 40, 80 and 160; the first time within 1
-///   millisecond if its receiver has acknowledged the same number twice and this is one of the 32 frames from there on,
-///   and the missing one itself within 5 each time;
+/// - a frame is not retransmitted within 20 milliseconds, or twice the time that its receiver's acknowledgements take on
+///   average, and then within twice as long each time, up to 160 milliseconds; the first time within 1 millisecond if its
+///   receiver has acknowledged the same number twice and this is one of the 32 frames from there on, and the missing one
+///   itself within 5 each time;
 /// - a part is not sent to the same address again within 20 milliseconds, whatever the number of its message, since a
 ///   replica repeats its control messages at each tick;
 /// - acknowledgements wait for the next flush or receive, and only the last one for each address is sent;
@@ -57,7 +58,9 @@ const MOST_TAKEN: usize = 2_048;
 /// - the latest request for a membership change is handed up once more after a second;
 /// - each second each peer is told whom this node hears. A peer that says three times that it does not hear this node
 ///   is not heard until it does;
-/// - where nothing but times came and went for 50 milliseconds, the inner port is asked to wait longer.
+/// - where nothing but times came and went for 50 milliseconds, the inner port is asked to wait longer, or not at all if
+///   a peer was heard and the last flush is 7 milliseconds ago: an empty receive is a tick, so nodes that are idle tell
+///   their times together, and wake once for all.
 ///
 /// A send that is held back is answered as sent, whether it is sent later or not: a network may lose it.
 #[derive(Drop)]
@@ -149,6 +152,7 @@ impl<P: Port, C: Clock> FlowPort<P, C> {
         };
         match self.hearing.note(from, bytes, self.now) {
             Heard::Open => {
+                self.quiet.note_heard();
                 self.quiet.note(bytes, self.now);
                 self.outbound.note_received(bytes, self.now);
                 self.inbound.peers.take_in(from, bytes, self.now)
@@ -324,12 +328,19 @@ impl<P: Port, C: Clock> FlowPort<P, C> {
             self.has_failed = false;
             return Err(Failed);
         }
-        if self.is_soon || is_busy {
+        if self.is_soon || is_busy || self.is_due() {
             self.port.poll_soon();
         } else if self.quiet.is_idle(self.now) {
             self.port.wait_long();
         }
         self.port.recv(&mut self.room)
+    }
+
+    /// Returns whether an idle node was told a peer's time and should now tell its own.
+    fn is_due(&mut self) -> bool
+        ensures { self.new ≡ record self.old { clock = self.new.clock } }
+    {
+        self.quiet.is_idle(self.now) && self.quiet.is_due(self.clock.now())
     }
 }
 
@@ -400,6 +411,7 @@ impl<P: Port, C: Clock> Port for FlowPort<P, C> {
     {
         self.outbound.acks.let_go(&mut self.port);
         self.hearing.say(self.now, &mut self.port);
+        self.quiet.note_flush(self.now);
         self.port.flush();
     }
 }

@@ -57,7 +57,7 @@ impl Outbound {
         ensures { self.new.acks ≡ self.old.acks }
     {
         if let Some(ack) = head_in(ACK, bytes) {
-            self.repeats.note_expected(ack.from, ack.epoch, ack.number);
+            self.repeats.note_expected(ack, now);
             self.window
                 .note_expected(ack.from, ack.epoch, ack.number, now);
         }

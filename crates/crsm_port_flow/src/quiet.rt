@@ -7,15 +7,21 @@ use crsm_wire::unmarked;
 /// Time in microseconds for which a node is busy after a datagram that does more than tell a time.
 const BUSY_FOR: u64 = 50_000;
 
+/// Time in microseconds after a flush from which on a node that is told a peer's time tells its own.
+const ANSWERS_AFTER: u64 = 7_000;
+
 /// Index of the first byte of a frame's payload behind the frame's own, and that byte where the payload is a time alone.
 const PAYLOAD: usize = 18;
 
 const TIME: u8 = 3;
 
-/// When a datagram last came or went that does more than tell a time or acknowledge one.
+/// When a datagram last came or went that does more than tell a time or acknowledge one, when the last flush was, and
+/// whether a peer was heard since.
 #[derive(Drop)]
 pub(crate) struct Quiet {
     busy_at: Option<u64>,
+    flushed_at: u64,
+    has_heard: bool,
 }
 
 /// Returns whether the bytes, with or without the mark of a cluster, tell a time or acknowledge frames, and nothing
@@ -32,7 +38,11 @@ fn tells_time(bytes: &[u8]) -> bool {
 impl Quiet {
     /// Returns a state before the first datagram.
     pub(crate) fn new() -> Quiet {
-        Quiet { busy_at: None }
+        Quiet {
+            busy_at: None,
+            flushed_at: 0,
+            has_heard: false,
+        }
     }
 
     /// Records a datagram that comes or goes.
@@ -40,6 +50,22 @@ impl Quiet {
         if !tells_time(bytes) {
             self.busy_at = Some(now);
         }
+    }
+
+    /// Records that a datagram came from a peer.
+    pub(crate) fn note_heard(&mut self) {
+        self.has_heard = true;
+    }
+
+    /// Records a flush.
+    pub(crate) fn note_flush(&mut self, now: u64) {
+        self.flushed_at = now;
+        self.has_heard = false;
+    }
+
+    /// Returns whether a peer was heard, and the last flush is long ago.
+    pub(crate) fn is_due(&self, now: u64) -> bool {
+        self.has_heard && !is_recent(self.flushed_at, now, ANSWERS_AFTER)
     }
 
     /// Returns whether no such datagram came or went for a while.

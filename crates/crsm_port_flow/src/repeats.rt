@@ -13,15 +13,12 @@ const REPLICAS: usize = 15;
 
 const WINDOW: usize = 4_096;
 
-/// Minimum times in microseconds between sends of a frame, by the number of its retransmissions; the last one is that
-/// of all further ones. They rise since its receiver may be busy or far away. If the receiver has acknowledged the same
-/// number twice, a frame is missing there: the first retransmission of the `MISSED` frames from that number on waits
-/// only `HASTE`, and each retransmission of the missing one only `NEXT`, since all frames after it wait for it.
+/// Minimum time in microseconds between two sends of a frame, and the maximum of it. It is twice what acknowledgements
+/// take if that is more, since a busy receiver is not helped by frames that it has, and it doubles with each
+/// retransmission, since the receiver may be far away. If the receiver has acknowledged the same number twice, a frame is
+/// missing there: the first retransmission of the `MISSED` frames from that number on waits only `HASTE`, and each
+/// retransmission of the missing one only `NEXT`, since all frames after it wait for it.
 const FIRST_PACE: u64 = 20_000;
-
-const SECOND_PACE: u64 = 40_000;
-
-const THIRD_PACE: u64 = 80_000;
 
 const LAST_PACE: u64 = 160_000;
 
@@ -41,12 +38,14 @@ struct SentFrame {
     again: u32,
 }
 
-/// The frame that a replica expects next, and whether it has acknowledged that number twice.
+/// The frame that a replica expects next, whether it has acknowledged that number twice, and the time in microseconds
+/// that its acknowledgements take.
 #[derive(Clone, Copy)]
 struct Expected {
     epoch: u64,
     next: u64,
     is_repeated: bool,
+    delay: u64,
 }
 
 /// How a frame stands to the one that its receiver expects.
@@ -60,15 +59,25 @@ enum Need {
     Unknown,
 }
 
-/// Returns the minimum time in microseconds after so many retransmissions.
-fn paced(again: u32) -> u64
+/// Returns the minimum time in microseconds after so many retransmissions, where the first one waits this long.
+fn paced(first: u64, again: u32) -> u64
     ensures { result ≤ 160_000 }
 {
-    match again {
-        0 => FIRST_PACE,
-        1 => SECOND_PACE,
-        2 => THIRD_PACE,
-        _ => LAST_PACE,
+    let factor = match again {
+        0 => 1,
+        1 => 2,
+        2 => 4,
+        _ => 8,
+    };
+    first.saturating_mul(factor).min(LAST_PACE)
+}
+
+/// Returns what acknowledgements take on average, where they took `delay` before and the last one took this long.
+fn smoothed(delay: u64, took: u64) -> u64 {
+    if took >= delay {
+        delay + (took - delay) / 8
+    } else {
+        delay - (delay - took) / 8
     }
 }
 
@@ -80,19 +89,40 @@ impl SentFrame {
         self.to == frame.to && self.epoch == frame.epoch && self.number == frame.number
     }
 
-    /// Returns the minimum time in microseconds until the frame may be sent again.
-    fn pace(&self, need: Need) -> u64
+    /// Returns the minimum time in microseconds until the frame may be sent again, where acknowledgements take `delay`.
+    fn pace(&self, need: Need, delay: u64) -> u64
         ensures { result ≤ 160_000 }
     {
         match need {
             Need::Missing | Need::Behind if self.again == 0 => HASTE,
             Need::Missing => NEXT,
-            Need::Behind | Need::Unknown => paced(self.again),
+            Need::Behind | Need::Unknown => {
+                paced(delay.saturating_mul(2).max(FIRST_PACE), self.again)
+            }
+        }
+    }
+
+    /// Returns how long ago this frame was sent, if it was sent once.
+    fn age(&self, frame: Head, now: u64) -> Option<u64> {
+        if self.is(frame) && self.again == 0 {
+            now.checked_sub(self.at)
+        } else {
+            None
         }
     }
 }
 
 impl Expected {
+    /// Records an acknowledgement, and the time that it took if that is known.
+    fn note(&mut self, ack: Head, took: Option<u64>) {
+        if let Some(took) = took {
+            self.delay = smoothed(self.delay, took.min(LAST_PACE));
+        }
+        self.is_repeated = self.epoch == ack.epoch && self.next == ack.number;
+        self.epoch = ack.epoch;
+        self.next = ack.number;
+    }
+
     /// Returns how a frame stands to the expected one.
     fn need(&self, epoch: u64, number: u64) -> Need {
         if !self.is_repeated || self.epoch != epoch || number < self.next {
@@ -132,6 +162,7 @@ impl Repeats {
             epoch: u64::MAX,
             next: 0,
             is_repeated: false,
+            delay: 0,
         };
         Ok(Repeats {
             last: Vec::from_elem(alloc, never, REPLICAS * WINDOW)?,
@@ -139,16 +170,29 @@ impl Repeats {
         })
     }
 
-    /// Records the sequence number that a replica expects.
-    pub(crate) fn note_expected(&mut self, from: u8, epoch: u64, next: u64) {
-        if let Some(expected) = self.expected.get_mut(usize::from(from)) {
-            let is_repeated = expected.epoch == epoch && expected.next == next;
-            *expected = Expected {
-                epoch,
-                next,
-                is_repeated,
-            };
+    /// Records the sequence number that a replica expects, at this reading.
+    pub(crate) fn note_expected(&mut self, ack: Head, now: u64)
+        ensures { self.new.last ≡ self.old.last }
+    {
+        let took = self.time_to(ack, now);
+        if let Some(expected) = self.expected.get_mut(usize::from(ack.from)) {
+            expected.note(ack, took);
         }
+    }
+
+    /// Returns how long ago the frame was sent that was expected and is acknowledged now. `None` if none is, or if it was
+    /// sent more than once: then the acknowledgement may be that of either.
+    fn time_to(&self, ack: Head, now: u64) -> Option<u64> {
+        let expected = self.expected.get(usize::from(ack.from))?;
+        if expected.epoch != ack.epoch || ack.number <= expected.next {
+            return None;
+        }
+        let frame = Head {
+            to: ack.from,
+            number: expected.next,
+            ..ack
+        };
+        self.last.get(place_of(frame))?.age(frame, now)
     }
 
     /// Returns whether a frame may be sent at this reading, and records it if so. A clock that went back holds nothing
@@ -157,13 +201,13 @@ impl Repeats {
         ensures held { result ≡ false → WentLately frame.to frame.epoch frame.number now self.old.last.items }
         ensures noted { NotesOnly frame.to frame.epoch frame.number now self.old.last.items self.new.last.items }
     {
-        let need = self.need(frame);
+        let (need, delay) = self.need(frame);
         let Some(last) = self.last.get_mut(place_of(frame)) else {
             return true;
         };
         let mut again = 0;
         if last.is(frame) {
-            if is_recent(last.at, now, last.pace(need)) {
+            if is_recent(last.at, now, last.pace(need, delay)) {
                 return false;
             }
             again = last.again.saturating_add(1);
@@ -184,11 +228,11 @@ impl Repeats {
         true
     }
 
-    /// Returns how a frame stands to the one that its receiver expects.
-    fn need(&self, frame: Head) -> Need {
+    /// Returns how a frame stands to the one that its receiver expects, and what its acknowledgements take.
+    fn need(&self, frame: Head) -> (Need, u64) {
         match self.expected.get(usize::from(frame.to)) {
-            Some(expected) => expected.need(frame.epoch, frame.number),
-            None => Need::Unknown,
+            Some(expected) => (expected.need(frame.epoch, frame.number), expected.delay),
+            None => (Need::Unknown, 0),
         }
     }
 }
