@@ -68,8 +68,7 @@ impl Collect {
     }
 
     /// Takes a message from replica `from` and returns the outcome: `Stranger`, with nothing changed, if it is not the
-    /// page that was asked for. `NoMemory` if memory runs out, or if the tail has more bytes than fit in memory;
-    /// nothing has changed then.
+    /// page that was asked for. `NoMemory` if memory runs out; nothing has changed then.
     pub fn take(&mut self, from: u32, answer: Control) -> Result<PageOutcome, NoMemory>
         requires from { from < 15 }
         requires fits { FitsControl answer }

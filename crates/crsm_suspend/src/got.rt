@@ -1,10 +1,10 @@
 //! The outcome of adding a page to a collection.
 
-ghost use Rattle.std.specs.Prelude.{◌≡◌, IfOk};
+ghost use Rattle.std.specs.Prelude.{◌≡◌};
 ghost use Rattle.crsm_suspend.specs.Collecting.{got_more, got_decided};
 
 use crate::sizes::total_size;
-use crsm_base::{Decision, MAX_TAIL_BYTES, MAX_TAIL_ENTRIES, NoMemory, Stamp};
+use crsm_base::{Decision, MAX_TAIL_BYTES, MAX_TAIL_ENTRIES, Stamp};
 
 /// The outcome of adding a page to a collection.
 #[derive(Debug, Drop)]
@@ -31,17 +31,16 @@ pub fn more(from: u32, cursor: Option<Stamp>) -> PageOutcome
     }
 }
 
-/// Returns `Complete` with the decision, or `TooMany` if its tail exceeds a limit. `NoMemory` if the tail's length in
-/// bytes exceeds 2^64 - 1.
-pub fn decided(decision: Decision) -> Result<PageOutcome, NoMemory>
-    ensures { IfOk result (λ got. got ≡ got_decided decision) }
+/// Returns `Complete` with the decision, or `TooMany` if its tail exceeds a limit.
+pub fn decided(decision: Decision) -> PageOutcome
+    ensures { result ≡ got_decided decision }
 {
     let count = decision.tail.as_slice().len() as u64;
-    let bytes = total_size(decision.tail.as_slice())?;
-    let is_within = (count <= MAX_TAIL_ENTRIES as u64) & (bytes <= MAX_TAIL_BYTES as u64);
+    let bytes = total_size(decision.tail.as_slice());
+    let is_within = (count <= MAX_TAIL_ENTRIES as u64) & (bytes <= MAX_TAIL_BYTES as u128);
     if is_within {
-        Ok(PageOutcome::Complete(decision))
+        PageOutcome::Complete(decision)
     } else {
-        Ok(PageOutcome::TooMany { count, bytes })
+        PageOutcome::TooMany { count, bytes }
     }
 }

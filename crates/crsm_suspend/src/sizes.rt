@@ -1,37 +1,28 @@
 //! Encoded lengths of entries.
 
-ghost use Rattle.std.specs.Prelude.{◌≡◌, ◌<◌, ◌+◌, ◌^◌, length, IfOk};
+ghost use Rattle.std.specs.Prelude.{◌≡◌, ◌<◌, ◌+◌, ◌^◌, length};
 ghost use Rattle.crsm_spec.specs.Collect.{size_of};
 ghost use Rattle.crsm_base.specs.Spelling.{entry_bytes, key_bytes, op_bytes, option_bytes, val_bytes};
 
-use crsm_base::{Entry, Key, NoMemory, Op, Val, never};
+use crsm_base::{Entry, Key, Op, Val};
 
 /// Returns the encoded length of an entry in bytes, also if its keys and values are longer than the limits allow.
 pub fn entry_size(entry: &Entry) -> u128
-    ensures { result ≡ length (entry_bytes entry.now) }
+    ensures value { result ≡ length (entry_bytes entry.now) }
+    ensures bound { result < 2 ^ 68 }
 {
     33 + op_size(&entry.command.op)
 }
 
-/// Returns the encoded length of the entries together, in bytes. `NoMemory` if it exceeds 2^64 - 1, which no memory
-/// holds.
-pub fn total_size(entries: &[Entry]) -> Result<u64, NoMemory>
-    ensures { IfOk result (λ size. size ≡ size_of entries.now) }
+/// Returns the encoded length of the entries together, in bytes.
+pub fn total_size(entries: &[Entry]) -> u128
+    ensures { result ≡ size_of entries.now }
 {
     let mut total = 0;
     for entry in entries {
-        total = sum(total, entry_size(entry))?;
+        total += entry_size(entry);
     }
-    Ok(total)
-}
-
-fn sum(total: u64, size: u128) -> Result<u64, NoMemory>
-    ensures { IfOk result (λ sum. sum ≡ total + size) }
-{
-    if size > (u64::MAX - total) as u128 {
-        return Err(never());
-    }
-    Ok(total + size as u64)
+    total
 }
 
 fn op_size(op: &Op) -> u128

@@ -21,7 +21,7 @@ loop-index-preserved c = λ es h.
     let entry = c.in_ok-entry.entry in
     let so_far = subst (λ (rest : List Entry). IsPaging c.loop-index.page c.loop-index.room rest all) (left es index entry (c.in_ok-entry.ensures.holds es h)) (c.loop-index.invariant es h) in
     goes_in c.loop-index.page all (drop (index + 1) es) c.loop-index.room entry so_far
-    c.push.new.self c.entry_size-size.result c.entry_size-size.ensures (omega (arith, c.if-size-room.false)) c.in_ok-push.ensures.ok
+    c.push.new.self c.entry_size-size.result c.entry_size-size.ensures.value (omega (arith, c.if-size-room.false)) c.in_ok-push.ensures.ok
 
 pub returns-then-size-room-clause-value : goal.returns-then-size-room-clause-value
 returns-then-size-room-clause-value c = λ es h.
@@ -30,7 +30,7 @@ returns-then-size-room-clause-value c = λ es h.
     let entry = c.in_ok-entry.entry in
     let so_far = subst (λ (rest : List Entry). IsPaging c.loop-index.page c.loop-index.room rest all) (left es index entry (c.in_ok-entry.ensures.holds es h)) (c.loop-index.invariant es h) in
     is_full c.loop-index.page all (drop (index + 1) es) c.loop-index.room entry so_far
-    c.entry_size-size.result c.entry_size-size.ensures (omega (arith, c.if-size-room.true))
+    c.entry_size-size.result c.entry_size-size.ensures.value (omega (arith, c.if-size-room.true))
 
 pub returns-then-size-room-clause-fits : goal.returns-then-size-room-clause-fits
 returns-then-size-room-clause-fits c =

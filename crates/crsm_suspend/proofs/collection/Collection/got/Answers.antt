@@ -1,8 +1,7 @@
 use Rattle.std.proofs.Common.{◌≡◌, ◌∙◌, ap, sym, subst, true, false}
-use Rattle.std.proofs.lemmas.Result.{IfOk-weaker}
 use Rattle.crsm_spec.specs.Collect.{is_whole, whole_ones}
 use Rattle.crsm_spec.specs.Quorum.{has_majority}
-use Rattle.crsm_suspend.specs.Collecting.{got_from, got_decided, got_more, FitsGot}
+use Rattle.crsm_suspend.specs.Collecting.{got_decided, got_more, FitsGot}
 use Rattle.crsm_suspend.specs.declared.report.ReportHead.{ReportHead}
 use Rattle.crsm_suspend.proofs.CollectLemmas.{cursor_is, whole_is, more_is, whole_got, kept_is, decided_is}
 use Rattle.crsm_suspend.proofs.FitLemmas.{fits_got}
@@ -29,11 +28,10 @@ returns-clause-got c = λ log spec named members pages s.
     let whole = ap (λ (h : ReportHead). h.is_whole) head ∙ whole_is pages c.args.from in
     let yes : is_whole pages c.args.from ≡ true = sym whole ∙ c.if-not-head.false in
     let many : has_majority spec (whole_ones spec pages) ≡ true = sym (c.has_majority.ensures log spec named members pages s) ∙ c.if-not-has_majority.false in
-    let is = ap got_decided (c.in_ok-decision.ensures.value log spec named members pages s) ∙ decided_is log spec named members pages many ∙ whole_got log spec named members pages c.args.from yes in
-    IfOk-weaker c.decided.result (λ got. got ≡ got_decided c.in_ok-decision.field-0) (λ got. got ≡ got_from log spec named members pages c.args.from) (λ got e. e ∙ is) c.decided.ensures
+    c.decided.ensures ∙ ap got_decided (c.in_ok-decision.ensures.value log spec named members pages s) ∙ decided_is log spec named members pages many ∙ whole_got log spec named members pages c.args.from yes
 
 pub returns-clause-fits : goal.returns-clause-fits
 returns-clause-fits c = λ log spec named members pages s.
-    let fits : FitsGot (got_decided c.in_ok-decision.field-0) = fits_got log spec named members pages s.told c.in_ok-decision.field-0 (c.in_ok-decision.ensures.value log spec named members pages s)
-    s.low_epoch s.low_start c.in_ok-decision.ensures.members.0 c.in_ok-decision.ensures.members.1 in
-    IfOk-weaker c.decided.result (λ got. got ≡ got_decided c.in_ok-decision.field-0) FitsGot (λ got e. subst FitsGot (sym e) fits) c.decided.ensures
+    subst FitsGot (sym c.decided.ensures)
+    (fits_got log spec named members pages s.told c.in_ok-decision.field-0 (c.in_ok-decision.ensures.value log spec named members pages s)
+    s.low_epoch s.low_start c.in_ok-decision.ensures.members.0 c.in_ok-decision.ensures.members.1)
