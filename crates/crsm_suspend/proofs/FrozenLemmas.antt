@@ -36,15 +36,15 @@ is_le a b h = grind (arith, nat_tests)
 not_le : (a b : ℕ) → b < a → nat_le a b ≡ false
 not_le a b h = grind (arith, nat_tests)
 
-run_next : (room : ℕ) (e : Entry) (es : List Entry) → length (entry_bytes e) ≤ room → run_within room (e ∷ es) ≡ e ∷ run_within (room - length (entry_bytes e)) es
+pub run_next : (room : ℕ) (e : Entry) (es : List Entry) → length (entry_bytes e) ≤ room → run_within room (e ∷ es) ≡ e ∷ run_within (room - length (entry_bytes e)) es
 unfolding run_within
 run_next room e es h = rw (is_le (length (entry_bytes e)) room h) refl
 
-run_stops : (room : ℕ) (e : Entry) (es : List Entry) → room < length (entry_bytes e) → run_within room (e ∷ es) ≡ []
+pub run_stops : (room : ℕ) (e : Entry) (es : List Entry) → room < length (entry_bytes e) → run_within room (e ∷ es) ≡ []
 unfolding run_within
 run_stops room e es h = rw (not_le (length (entry_bytes e)) room h) refl
 
-run_none : (room : ℕ) → run_within room [] ≡ []
+pub run_none : (room : ℕ) → run_within room [] ≡ []
 unfolding run_within
 run_none room = refl
 

@@ -18,3 +18,4 @@ pub use collect::Collect;
 pub use frozen::page_of;
 pub use got::PageOutcome;
 pub use laws::got_is_by_the_rules;
+pub use sizes::entry_size;

@@ -1,11 +1,12 @@
 use Rattle.std.proofs.Common.{◌≡◌, ℕ, List, ◌++◌, drop}
 use Rattle.crsm_spec.specs.Types.{Rec}
 use Rattle.crsm_spec.specs.Log.{executed}
-use Rattle.crsm_spec.specs.Collect.{run_within, first_page}
 use Rattle.crsm_ledger.specs.Ledger.{LedgerStands}
+use Rattle.crsm_transfer.proofs.PageLemmas.{IsBegun}
 use Rattle.crsm_transfer.proofs.paging.entries_from.Given as goal
 
 abbrev pub invariant-loop-place : goal.invariant-loop-place
-invariant-loop-place l =
-    (me n : ℕ) (log : List Rec) → LedgerStands me n l.ledger log →
-    l.entries ++ run_within l.room (drop l.place (executed log)) ≡ first_page (drop l.fn.from (executed log))
+invariant-loop-place l = record {
+  begun : IsBegun l.entries l.room;
+  done : (me n : ℕ) (log : List Rec) → LedgerStands me n l.ledger log → l.entries ++ drop l.place (executed log) ≡ drop l.fn.from (executed log);
+}
