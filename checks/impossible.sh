@@ -37,8 +37,6 @@ exit "$fail"
 # list
 # crsm_mpreplica 1
 # crsm_mpworld 1
-# crsm_replica 1
 # crsm_sim_machine 1
 # crsm_sim_network 1
-# crsm_suspend 1
 # crsm_world 1

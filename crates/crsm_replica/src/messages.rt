@@ -5,12 +5,11 @@ ghost use Rattle.crsm_base.specs.declared.Control.{Control as ControlOnPaper};
 ghost use Rattle.crsm_base.specs.Messages.{FitsControl};
 ghost use Rattle.crsm_replica_output.specs.Spellings.{IsSpelling, IsSpellingOf};
 ghost use Rattle.crsm_spec.specs.Draft.{Draft, send_control, send_to_each, send_to_all, send_decision, send_retrieve};
-ghost use Rattle.crsm_replica.specs.Replica.{ReplicaStands, Makes, WhereStands};
+ghost use Rattle.crsm_replica.specs.Replica.{ReplicaStands, Makes};
 
 use crate::state::ReplicaState;
-use crsm_base::{Control, NoMemory, never};
+use crsm_base::{Control, NoMemory};
 use crsm_replica_output::{parts_are_spelt, send_parts, spell, spell_decision};
-use crsm_wire::is_control_spelt;
 
 impl ReplicaState {
     #[tactic(auto, unfolding(crate::specs::Replica::ReplicaStands))]
@@ -48,19 +47,6 @@ impl ReplicaState {
     {
         let spelling = spell(self.alloc, control)?;
         self.send_spelt(k, spelling.as_slice())?;
-        Ok(())
-    }
-
-    /// Sends replica `k` a control message that has an encoding because of what the state stands for, unless this boot
-    /// has used all message numbers. `NoMemory` if memory runs out.
-    pub fn send_known(&mut self, k: u32, control: &Control) -> Result<(), NoMemory>
-        requires { k < 15 }
-        ensures { IfOk result (λ _. WhereStands self.old (λ x. FitsControl control.now → ReplicaStands self.new (send_control control.now x k))) }
-    {
-        if !is_control_spelt(control) {
-            return Err(never());
-        }
-        self.send_control(k, control)?;
         Ok(())
     }
 

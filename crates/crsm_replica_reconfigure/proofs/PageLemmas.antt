@@ -1,6 +1,6 @@
 -- The transfer of executed entries.
 use Rattle.std.proofs.Common.{◌≡◌, ℕ, ◌<◌, List, [], ◌∷◌, ◌++◌, length, drop, refl, sym, ◌∙◌, ap, subst, arith, Bool, true, false}
-use Rattle.std.specs.Prelude.{◌-◌, ◌^◌, ◌==◌, ◌&&◌, ◌||◌, not, nat_lt, nat_le, take, Option, Some, None, if◌then◌else◌}
+use Rattle.std.specs.Prelude.{◌-◌, ◌==◌, ◌&&◌, ◌||◌, not, nat_lt, nat_le, take, Option, Some, None, if◌then◌else◌}
 use Rattle.std.specs.Option.{option_map_or}
 use Rattle.std.proofs.lemmas.Bool.{false≢true, eqb-true}
 use Rattle.std.proofs.lemmas.Bool.Decides.{nat_tests}
@@ -20,7 +20,7 @@ use Rattle.crsm_transfer.specs.declared.answer.Fit.TheVariants.{Ahead, Gap, Noth
 use Rattle.crsm_transfer.specs.Fitting.{IsPage, fit_of, fit_in}
 use Rattle.crsm_transfer.specs.Paging.{page_at}
 use Rattle.crsm_fact_log.proofs.EntriesFit.{take_fits, drop_fits}
-use Rattle.crsm_fact_log.proofs.LogsFit.{decision_fits, known_small, executed_page}
+use Rattle.crsm_fact_log.proofs.LogsFit.{decision_fits}
 use Rattle.crsm_replica_reconfigure.specs.Rules.{CanAdopt, on_page_in, send_executed, take_executed, rest_goes_on}
 use Rattle.crsm_replica_reconfigure.proofs.DraftLemmas.{when_yes, when_no, booted_more, rest_fits, enter_fitting, retrieve_fitting}
 
@@ -43,10 +43,6 @@ page_there k from x c h = go (nat_lt from (length (executed x.replica.log))) ref
         (c ≡ page_from x.replica.log from) × ((when nat_lt from (length (executed x.replica.log)) then send_control (page_from x.replica.log from) x k otherwise x) ≡ send_control (page_from x.replica.log from) x k)
     go true e h = (same_Some c _ h, when_yes _ _ x e)
     go false e h = absurd (none-some c (sym h))
-
-pub page_spelt : (x : Draft) (from : ℕ) → IsSound x → from < 2 ^ 64 → FitsControl (page_from x.replica.log from)
-unfolding page_from
-page_spelt x from s l = (known_small x.replica.log s.spelt, l, executed_page x.replica.me x.replica.n x.replica.log from s.kept s.spelt)
 
 pub retrieve_old : (k e from : ℕ) (x : Draft) → e < known x.replica.log → on_retrieve k e from x ≡ send_decision k x
 unfolding on_retrieve

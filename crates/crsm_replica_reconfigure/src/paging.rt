@@ -44,7 +44,7 @@ fn send_page(state: &mut ReplicaState, k: u32, from: u64) -> Result<(), NoMemory
     let Some(control) = found else {
         return Ok(());
     };
-    state.send_known(k, &control)?;
+    state.send_control(k, &control)?;
     Ok(())
 }
 
