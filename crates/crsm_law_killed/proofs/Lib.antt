@@ -1,1 +1,3 @@
-mod Stopped
+mod Disks
+mod Handed
+mod Runs

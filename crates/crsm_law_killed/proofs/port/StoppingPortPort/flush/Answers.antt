@@ -1,0 +1,10 @@
+use Rattle.std.proofs.Common.{arith, refl}
+use Rattle.crsm_law_killed.specs.Calls.{rests}
+use Rattle.crsm_law_killed.proofs.Handed.{one_more}
+use Rattle.crsm_law_killed.proofs.port.StoppingPortPort.flush.Goals as goal
+
+pub invariant_of-self-2 : goal.invariant_of-self-2
+invariant_of-self-2 g c = record {
+  handed = one_more c.args.self.now.handed (c.if-not-takes_one.ensures.some.0 refl) c.takes_one.ensures.counts (omega arith)
+      (rests c.flush.ensures.same c.flush.ensures.rests);
+}

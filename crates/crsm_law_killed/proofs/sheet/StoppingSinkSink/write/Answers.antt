@@ -1,0 +1,13 @@
+use Rattle.std.proofs.Common.{arith}
+use Rattle.crsm_law_killed.proofs.Handed.{one_more, refuse}
+use Rattle.crsm_law_killed.proofs.sheet.StoppingSinkSink.write.Goals as goal
+
+pub invariant_of-self : goal.invariant_of-self
+invariant_of-self g c = record { handed = refuse c.args.self.now.handed c.in_err-hand_on.ensures.none c.hand_on.ensures.counts }
+
+pub invariant_of-self-2 : goal.invariant_of-self-2
+invariant_of-self-2 g c = record {
+  handed = let same = c.in_ok-hand_on.ensures.same in
+      one_more c.args.self.now.handed c.in_ok-hand_on.ensures.some c.hand_on.ensures.counts (omega arith)
+      (record { piece = c.args.piece.now; result = c.write.result; bound = c.write.ensures.bound; put = c.write.ensures.put; later = c.write.ensures.later; rose = c.write.ensures.rose });
+}
