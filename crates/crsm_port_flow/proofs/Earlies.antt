@@ -5,13 +5,13 @@ use Rattle.std.proofs.lemmas.List.Elements.{Contains-append_left, Contains-appen
 use Rattle.std.proofs.lemmas.List.Sums.{sum_by-cons}
 use Rattle.std.proofs.lemmas.Option.{none-some}
 use Rattle.std.specs.List.{sum_by}
-use Rattle.std.specs.Prelude.{◌⊎◌, Contains, OnOk, slice_get, slice_index_or}
+use Rattle.std.specs.Prelude.{◌⊎◌, Contains, OnErr, OnOk, slice_get, slice_index_or}
 use Rattle.crsm_port.specs.Passing.{Datagrams, NoMore, either}
 use Rattle.crsm_port_flow.proofs.Keepings.{push_cases}
 use Rattle.crsm_port_flow.specs.Early.{AreFrames, Expects, IsEarlyIn, KeepsSome, NoneNext, TakesNext, Waits, WaitsAs, after, place_of}
-use Rattle.crsm_port_flow.specs.Kept.{KeepsOnly, early_in, packet_of, ready_in}
+use Rattle.crsm_port_flow.specs.Kept.{Is, KeepsOnly, early_in, packet_of, ready_in}
 use Rattle.crsm_port_flow.specs.Rooms.{Counts, IsOneMore, size_of}
-use Rattle.crsm_port_flow.specs.Taken.{Is, IsMadeReady, StaysReady}
+use Rattle.crsm_port_flow.specs.Taken.{IsMadeReady, StaysReady}
 use Rattle.crsm_port_flow.specs.declared.datagram.Datagram.{Datagram}
 use Rattle.crsm_port_flow.specs.declared.datagram.Room.{Room}
 use Rattle.crsm_port_flow.specs.declared.early.Early.{Early}
@@ -225,6 +225,14 @@ early_still from bytes old v w same keeps = subst (λ (x : Vec (Option Frame) Gl
 pub ok_map : {E : Type 0} (r : Result (Unit {0}) E) (P Q : Type 0) → (P → Q) → OnOk r P → OnOk r Q
 ok_map (Ok u) P Q f p = f p
 ok_map (Err e) P Q f p = tt
+
+pub ok_both : {E : Type 0} (r : Result (Unit {0}) E) (P Q R : Type 0) → (P → Q → R) → OnOk r P → OnOk r Q → OnOk r R
+ok_both (Ok u) P Q R f p q = f p q
+ok_both (Err e) P Q R f p q = tt
+
+pub err_map : {E : Type 0} (r : Result (Unit {0}) E) (P Q : Type 0) → (P → Q) → OnErr r P → OnErr r Q
+err_map (Ok u) P Q f p = tt
+err_map (Err e) P Q f p = f p
 
 pub ok_of : {E : Type 0} (r : Result (Unit {0}) E) (P : Type 0) → P → OnOk r P
 ok_of (Ok u) P p = p

@@ -2,7 +2,7 @@
 use Rattle.std.proofs.Common.{◌≡◌, ◌∙◌, ◌<◌, ◌++◌, ℕ, zero, suc, List, [], ◌∷◌, length, map, take, drop, set, refl, sym, ap, subst, arith, inl, inr, Option, Some, None, true, Result, Ok, Err, take-append-drop}
 use Rattle.std.proofs.lemmas.Bool.{true≢false}
 use Rattle.std.proofs.lemmas.Option.{none-some}
-use Rattle.std.specs.Prelude.{◌⊎◌, Contains, IfOk, IfSome, IsSome, OnErr, OnOk, slice_index_or}
+use Rattle.std.specs.Prelude.{◌⊎◌, Contains, IfOk, IfSome, IsSome, slice_index_or}
 use Rattle.crsm_base.specs.declared.memory.Failed.{Failed}
 use Rattle.crsm_port.specs.Meaning.{IsWithin, Packet}
 use Rattle.crsm_port.specs.Passing.{Cut, Datagrams, IsOf, NoMore, Only}
@@ -15,7 +15,6 @@ use Rattle.crsm_port_flow.specs.Turns.{DropsOver}
 use Rattle.crsm_port_flow.specs.declared.clients.Clients.{Clients}
 use Rattle.crsm_port_flow.specs.declared.clients.Operate.{Operate}
 use Rattle.crsm_port_flow.specs.declared.datagram.Datagram.{Datagram as Kept}
-use Rattle.crsm_port_flow.specs.declared.datagram.Loss.{Loss}
 use Rattle.crsm_port_flow.specs.declared.early.Early.{Early}
 use Rattle.crsm_port_flow.specs.declared.early.Frame.{Frame}
 use Rattle.crsm_port_flow.specs.declared.inbound.Inbound.{Inbound}
@@ -241,19 +240,6 @@ module _ (old mid new : Inbound) (before after : List ℕ) (peers : mid.peers �
     ],
   )
 
-  -- nothing goes
-  pub peers_none : new.clients ≡ mid.clients → new.peers.ready.items ≡ [] → new.peers.early ≡ mid.peers.early → NoMore (kept_in old) (kept_in new)
-  peers_none same none early a b has = elim has [
-    | inl of_peer ↦ elim of_peer [
-      | inl ready ↦ let w = subst (λ (ds : List Kept). ready_in ds a b) none ready in absurd (omega (arith, w.1))
-      | inr waits ↦ inl (inr (subst (λ (e : Early). early_in e.frames.items a b) (early ∙ ap (λ (p : FromPeers). p.early) peers) waits))
-    ]
-    | inr of_client ↦ elim of_client [
-      | inl waits ↦ inr (inl (subst (λ (rs : List Waiting). waiting_in rs a b) (ap (λ (c : Clients). c.requests.waiting.items) same ∙ waiting) waits))
-      | inr latest ↦ inr (inr (subst (λ (o : Option Operate). operate_in o a b) (ap (λ (c : Clients). c.operate) same ∙ operate) latest))
-    ]
-  ]
-
 pub some_not_none : (r : Option Recv) → IsSome r → r ≡ None → ⊥
 some_not_none r some none = true≢false (sym (subst (λ (x : Option Recv). IsSome x) none some))
 
@@ -326,16 +312,12 @@ dropped_rest now i j peers (gone, is, _) operate a b has = elim has [
 
 -- ---- a request that waits
 
-pub request_kept : (from : ℕ) (bytes : List ℕ) (r : Waiting) (c e : Clients) (kept : Result (Unit {0}) Loss) → (let p : Packet = record { address = from; bytes = bytes } in packet_in r ≡ p) → e.operate ≡ c.operate
-    → OnOk kept (e.requests.waiting.items ≡ c.requests.waiting.items ++ r ∷ []) → OnErr kept (e.requests.waiting.items ≡ c.requests.waiting.items) → KeepsOnly from bytes (of_clients c) (of_clients e)
-request_kept from bytes r c e (Ok u) is operate more same a b has = elim has [
+pub request_kept : (from : ℕ) (bytes : List ℕ) (r : Waiting) (c e : Clients) → (let p : Packet = record { address = from; bytes = bytes } in packet_in r ≡ p) → e.operate ≡ c.operate → e.requests.waiting.items ≡ c.requests.waiting.items ++ r ∷ []
+    → KeepsOnly from bytes (of_clients c) (of_clients e)
+request_kept from bytes r c e is operate more a b has = elim has [
   | inl waits ↦ elim (waiting_more from bytes r c.requests.waiting.items e.requests.waiting.items is more a b waits) [
     | inl only ↦ inl only
     | inr before ↦ inr (inl before)
   ]
-  | inr latest ↦ inr (inr (subst (λ (o : Option Operate). operate_in o a b) operate latest))
-]
-request_kept from bytes r c e (Err x) is operate more same a b has = elim has [
-  | inl waits ↦ inr (inl (subst (λ (rs : List Waiting). waiting_in rs a b) same waits))
   | inr latest ↦ inr (inr (subst (λ (o : Option Operate). operate_in o a b) operate latest))
 ]

@@ -4,3 +4,4 @@ mod Keepings
 mod Sendings
 mod Turns
 mod Losing
+mod Reading

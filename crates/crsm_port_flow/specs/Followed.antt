@@ -2,7 +2,7 @@
 use Rattle.std.specs.Prelude.{◌≡◌, ◌⊎◌, ◌++◌, ℕ, List, ◌∷◌, Contains, Some}
 use Rattle.crsm_port_flow.specs.Early.{AreFrames, Expects, Waits, after}
 use Rattle.crsm_port_flow.specs.Heads.{HasHead}
-use Rattle.crsm_port_flow.specs.Taken.{Is}
+use Rattle.crsm_port_flow.specs.Kept.{Is}
 use Rattle.crsm_port_flow.specs.declared.datagram.Datagram.{Datagram}
 use Rattle.crsm_port_flow.specs.declared.early.Frame.{Frame}
 use Rattle.crsm_port_flow.specs.declared.peers.FromPeers.{FromPeers}

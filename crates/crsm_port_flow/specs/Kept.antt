@@ -15,6 +15,10 @@ use Rattle.crsm_port_flow.specs.declared.requests.Waiting.{Waiting}
 abbrev pub packet_of : Datagram → Packet
 packet_of d = record { address = d.from; bytes = d.bytes.items }
 
+-- this is the datagram
+abbrev pub Is : ℕ → List ℕ → Datagram → Type 0
+Is from bytes d = packet_of d ≡ record { address = from; bytes = bytes }
+
 -- the datagram is handed up, cut to the buffer
 abbrev pub GoesUp : Packet → List ℕ → List ℕ → Recv → Type 0
 GoesUp d before after received.Nothing = ⊥

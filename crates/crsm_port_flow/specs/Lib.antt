@@ -7,7 +7,9 @@ pub mod Kept
 pub mod Losses
 pub mod Lost
 pub mod Order
+pub mod Reads
 pub mod Rooms
+pub mod Same
 pub mod Taken
 pub mod Turns
 pub mod Waits

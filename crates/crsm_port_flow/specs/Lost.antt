@@ -1,9 +1,10 @@
 -- What a port may drop of what comes up.
-use Rattle.std.specs.Prelude.{◌⊎◌, ◌≤◌, ℕ, List, length}
+use Rattle.std.specs.Prelude.{◌≡◌, ◌⊎◌, ◌≤◌, ℕ, List, length}
 use Rattle.crsm_port_flow.specs.Early.{HasOther, IsEarlyIn}
 use Rattle.crsm_port_flow.specs.Heads.{AsksNothing, HasHead}
 use Rattle.crsm_port_flow.specs.Losses.{CountsLoss}
 use Rattle.crsm_port_flow.specs.Rooms.{IsFull}
+use Rattle.crsm_port_flow.specs.Same.{SameClients, SamePeers}
 use Rattle.crsm_port_flow.specs.Taken.{Comes, IsPeer, IsStranger}
 use Rattle.crsm_port_flow.specs.declared.clients.Clients.{Clients}
 use Rattle.crsm_port_flow.specs.declared.datagram.Loss.TheVariants as loss
@@ -37,6 +38,10 @@ HasNoRoomOfClients bytes c = (1_280 ≤ length c.requests.waiting.items) ⊎ IsF
 abbrev pub MayDrop : ℕ → List ℕ → List Peer → Inbound → Type 0
 MayDrop from bytes peers i = (IsPeer from peers × HasNoRoomOfPeers bytes i.peers) ⊎ (IsStranger from peers × (AsksNothing bytes ⊎ HasNoRoomOfClients bytes i.clients))
 
--- it comes, or it may be dropped and is counted as such, or is counted as one for which there was no memory
+-- it may be dropped and is counted as such, or is counted as one for which there was no memory
+abbrev pub IsLost : ℕ → List ℕ → List Peer → Inbound → (lost lost_now : Losses) → Type 0
+IsLost from bytes peers i lost lost_now = (MayDrop from bytes peers i × CountsLoss loss.Dropped lost lost_now) ⊎ CountsLoss loss.NoMemory lost lost_now
+
+-- it comes, or it is lost, and it alone
 abbrev pub TakesIn : ℕ → List ℕ → ℕ → List Peer → (i j : Inbound) → (lost lost_now : Losses) → Type 0
-TakesIn from bytes now peers i j lost lost_now = Comes from bytes now peers i j ⊎ ((MayDrop from bytes peers i × CountsLoss loss.Dropped lost lost_now) ⊎ CountsLoss loss.NoMemory lost lost_now)
+TakesIn from bytes now peers i j lost lost_now = (Comes from bytes now peers i j × (lost_now ≡ lost)) ⊎ (SamePeers i.peers j.peers × SameClients i.clients j.clients × IsLost from bytes peers i lost lost_now)

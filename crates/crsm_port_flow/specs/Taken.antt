@@ -2,7 +2,8 @@
 use Rattle.std.specs.Prelude.{◌≡◌, ◌⊎◌, ◌++◌, ◌≤◌, ℕ, List, [], ◌∷◌, Some, false, Contains}
 use Rattle.crsm_port_flow.specs.Early.{IsEarlyIn, Waits, WaitsAs}
 use Rattle.crsm_port_flow.specs.Heads.{HasHead, IsOperate, IsRequest}
-use Rattle.crsm_port_flow.specs.Kept.{packet_of}
+use Rattle.crsm_port_flow.specs.Followed.{IsFollowed, NoneLost}
+use Rattle.crsm_port_flow.specs.Kept.{Is}
 use Rattle.crsm_port_flow.specs.Turns.{IsCommandIn, IsUnderWay}
 use Rattle.crsm_port_flow.specs.declared.clients.Clients.{Clients}
 use Rattle.crsm_port_flow.specs.declared.clients.Operate.{Operate}
@@ -12,10 +13,6 @@ use Rattle.crsm_port_flow.specs.declared.hearing.Peer.{Peer}
 use Rattle.crsm_port_flow.specs.declared.inbound.Inbound.{Inbound}
 use Rattle.crsm_port_flow.specs.declared.peers.FromPeers.{FromPeers}
 use Rattle.crsm_port_flow.specs.declared.requests.Waiting.{Waiting}
-
--- this is the datagram
-abbrev pub Is : ℕ → List ℕ → Datagram → Type 0
-Is from bytes d = packet_of d ≡ record { address = from; bytes = bytes }
 
 -- ---- of a peer
 
@@ -38,7 +35,11 @@ IsHeldAlready bytes old = (sender to epoch number : ℕ) × HasHead 1 sender to 
 
 -- what needs no order, and the next frame in order, is ready; a frame before which another is missing waits
 abbrev pub IsTaken : ℕ → List ℕ → FromPeers → FromPeers → Type 0
-IsTaken from bytes old new = IsMadeReady from bytes old.ready.items new.ready.items ⊎ (IsHeld from bytes old new ⊎ IsHeldAlready bytes old)
+IsTaken from bytes old new = IsMadeReady from bytes old.ready.items new.ready.items ⊎ (IsHeld from bytes old new ⊎ (IsHeldAlready bytes old × (new ≡ old)))
+
+-- it is taken, the frames that waited for it are ready behind it, and nothing that was kept of peers is lost
+abbrev pub JoinsPeers : ℕ → List ℕ → FromPeers → FromPeers → Type 0
+JoinsPeers from bytes old new = IsTaken from bytes old new × IsFollowed from bytes old new × StaysReady old.ready.items new.ready.items × NoneLost old new
 
 -- ---- of one who is no peer
 
@@ -54,8 +55,11 @@ IsRepeat bytes now old = (command : Command) × IsRequest bytes × IsCommandIn c
 abbrev pub IsLatest : ℕ → List ℕ → ℕ → Clients → Type 0
 IsLatest from bytes now new = (o : Operate) × IsOperate bytes × Is from bytes o.datagram × (o.at ≡ now) × (o.has_gone ≡ false) × (new.operate ≡ Some o)
 
+-- it waits, is a repeat, or is the latest request for a membership change; nothing else changes of what waits
 abbrev pub IsAsked : ℕ → List ℕ → ℕ → Clients → Clients → Type 0
-IsAsked from bytes now old new = IsMadeWait from bytes now old new ⊎ (IsRepeat bytes now old ⊎ IsLatest from bytes now new)
+IsAsked from bytes now old new =
+    (IsMadeWait from bytes now old new × (new.operate ≡ old.operate))
+    ⊎ ((IsRepeat bytes now old × (new ≡ old)) ⊎ (IsLatest from bytes now new × (new.requests ≡ old.requests)))
 
 -- ---- of anybody
 
@@ -77,6 +81,6 @@ IsOfDeaf from peers = (p : Peer) × Contains peers p × (p.address ≡ from) × 
 -- a datagram of a peer is taken, and that of another if it asks for something; what a peer says of hearing is not handed up, nor is what comes from one that does not hear this node
 abbrev pub Comes : ℕ → List ℕ → ℕ → List Peer → Inbound → Inbound → Type 0
 Comes from bytes now peers old new =
-    (IsPeer from peers × IsTaken from bytes old.peers new.peers × (new.clients ≡ old.clients))
+    (IsPeer from peers × JoinsPeers from bytes old.peers new.peers × (new.clients ≡ old.clients))
     ⊎ ((IsStranger from peers × IsAsked from bytes now old.clients new.clients × (new.peers ≡ old.peers))
     ⊎ ((new ≡ old) × (IsSaid bytes ⊎ IsOfDeaf from peers)))

@@ -1,11 +1,12 @@
 //! What those ask for who are no peers: clients' requests, and an operator's request for a membership change.
 
-ghost use Rattle.std.specs.Prelude.{◌≡◌, ◌⊎◌, ℕ, [], IfOk, IfSome, IsErrOf, OnOk, None, Some, true, false};
+ghost use Rattle.std.specs.Prelude.{◌≡◌, ◌⊎◌, ℕ, [], IfOk, IfSome, IsErrOf, OnErr, OnOk, None, Some, true, false};
 ghost use Rattle.crsm_port.specs.Passing.{NoMore};
 ghost use Rattle.crsm_port_flow.specs.Heads.{AsksNothing, IsOperate, IsRequest};
 ghost use Rattle.crsm_port_flow.specs.Kept.{KeepsOnly, of_clients};
 ghost use Rattle.crsm_port_flow.specs.Lost.{HasNoRoomOfClients};
 ghost use Rattle.crsm_port_flow.specs.Order.{IsNotDue, LatestGoes, NoneGoes, OldestGoes};
+ghost use Rattle.crsm_port_flow.specs.Same.{SameClients};
 ghost use Rattle.crsm_port_flow.specs.Taken.{IsAsked};
 ghost use Rattle.crsm_port_flow.specs.Turns.{AreInTime, DropsOver, IsAnswered, IsCommandIn};
 
@@ -74,6 +75,7 @@ impl Clients {
     pub(crate) fn take_in(&mut self, from: u64, bytes: &[u8], now: u64) -> Result<(), Loss>
         ensures taken { OnOk result (IsAsked from bytes.now now self.old self.new) }
         ensures dropped { IsErrOf result Loss.Dropped → AsksNothing bytes.now ⊎ HasNoRoomOfClients bytes.now self.old }
+        ensures unchanged { OnErr result (SameClients self.old self.new) }
         ensures only { KeepsOnly from bytes.now (of_clients self.old) (of_clients self.new) }
     {
         match asked_in(self.alloc, bytes) {
@@ -89,6 +91,7 @@ impl Clients {
         requires { IsRequest bytes.now }
         ensures taken { OnOk result (IsAsked from bytes.now now self.old self.new) }
         ensures dropped { IsErrOf result Loss.Dropped → HasNoRoomOfClients bytes.now self.old }
+        ensures unchanged { OnErr result (SameClients self.old self.new) }
         ensures only { KeepsOnly from bytes.now (of_clients self.old) (of_clients self.new) }
     {
         let Some(command) = Command::of(bytes) else {
@@ -99,7 +102,8 @@ impl Clients {
             RequestFate::HasNoRoom => Err(Loss::Dropped),
             RequestFate::Waits => {
                 let datagram = self.room.put(LIMITS, from, bytes)?;
-                self.requests.keep(command, datagram, now)
+                self.requests.keep(command, datagram, now);
+                Ok(())
             }
         }
     }
@@ -109,6 +113,7 @@ impl Clients {
         requires { IsOperate bytes.now }
         ensures taken { OnOk result (IsAsked from bytes.now now self.old self.new) }
         ensures dropped { IsErrOf result Loss.Dropped → HasNoRoomOfClients bytes.now self.old }
+        ensures unchanged { OnErr result (SameClients self.old self.new) }
         ensures only { KeepsOnly from bytes.now (of_clients self.old) (of_clients self.new) }
     {
         let datagram = self.room.put(LIMITS, from, bytes)?;

@@ -127,6 +127,7 @@ impl Early {
         ensures stay { StayKept self.old.frames.items self.new.frames.items }
         ensures only { OneMoreWaits datagram self.old.frames.items self.new.frames.items }
         ensures one_more { OnOk result (IsOneMore datagram self.old.frames.items self.new.frames.items) }
+        ensures links { self.new.links ≡ self.old.links }
         ensures taken { IfErr result (λ d. (d ≡ datagram) × (self.new.frames.items ≡ self.old.frames.items) × (kept_at frame.from frame.number self.old.frames.items ≡ None → ⊥)) }
     {
         let place = &mut self.frames[place_of(frame.from, frame.number)];

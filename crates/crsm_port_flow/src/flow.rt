@@ -1,14 +1,17 @@
 //! `FlowPort`: retransmission and flow control around a port.
 
-ghost use Rattle.std.specs.Prelude.{◌≡◌, ◌≢◌, ◌≤◌, ◌⊎◌, ◌++◌, List, [], take, map, IfOk, IfSome, IsErrOf, IsOk, IsOkAnd, OnErr, OnOk, length};
+ghost use Rattle.std.specs.Prelude.{◌≡◌, ◌≢◌, ◌≤◌, ◌⊎◌, ◌++◌, List, [], take, map, true, false, IfOk, IfSome, IsErrOf, IsOk, IsOkAnd, OnErr, OnOk, length};
 ghost use Rattle.crsm_port_faults.specs.Counts.{Rose};
-ghost use Rattle.crsm_port.specs.Meaning.{IsWithin, Packet, Receives, Sends};
+ghost use Rattle.crsm_port.specs.Meaning.{IsWithin, Packet, Receives, Reserves, Sends};
 ghost use Rattle.crsm_port.specs.Passing.{Cut, HandsUp, IsOf, NoMore, PassesOn, Rests};
 ghost use Rattle.crsm_port.specs.Unknown.{unknown};
 ghost use Rattle.crsm_port_flow.specs.Acks.{AllSay, packet_of, sent_with};
+ghost use Rattle.crsm_port_flow.specs.Hears.{AreKnownBy};
 ghost use Rattle.crsm_port_flow.specs.Kept.{KeepsOnly, given_by, kept_in};
 ghost use Rattle.crsm_port_flow.specs.Lost.{MayDrop, TakesIn};
 ghost use Rattle.crsm_port_flow.specs.Order.{NextGoes, NothingGoes};
+ghost use Rattle.crsm_port_flow.specs.Reads.{IsAnswer, ReadsAhead, ReadsAll, ReadsOne, SendsAndTakes, TakesAndEnds, TakesOrEnds, state_of};
+ghost use Rattle.crsm_port_flow.specs.Same.{SameClients, SameKept, SamePeers, StaysWhenSent};
 ghost use Rattle.crsm_port_flow.specs.Taken.{Comes, IsStranger};
 ghost use Rattle.crsm_port_flow.specs.Turns.{IsAnswered, IsReplyTo};
 ghost use Rattle.crsm_port_flow.specs.Waits.{MayWait, SendsAll};
@@ -96,7 +99,7 @@ impl<P: Drop, C: Drop> FlowPort<P, C> {
         me: usize,
         peers: &[u64],
     ) -> Result<FlowPort<P, C>, NoMemory>
-        ensures { IfOk result (λ p. (p.port ≡ inner) × NoMore (λ _ _. ⊥) (kept_in p.inbound) × (p.outbound.acks.acks.items ≡ [])) }
+        ensures { IfOk result (λ p. (p.port ≡ inner) × (length p.room.items ≡ 8_201) × (p.has_failed ≡ false) × NoMore (λ _ _. ⊥) (kept_in p.inbound) × (p.outbound.acks.acks.items ≡ [])) }
     {
         Ok(FlowPort {
             port: inner,
@@ -125,6 +128,9 @@ impl<P: Port, C: Clock> FlowPort<P, C> {
         ensures kept { KeepsOnly from (take len self.old.room.items) (kept_in self.old.inbound) (kept_in self.new.inbound) }
         ensures comes { TakesIn from (take len self.old.room.items) self.old.now self.old.hearing.peers.items self.old.inbound self.new.inbound self.old.lost self.new.lost }
         ensures leaves_room { IsStranger from self.old.hearing.peers.items → self.new.inbound.peers ≡ self.old.inbound.peers }
+        ensures known { AreKnownBy self.old.hearing.me from (take len self.old.room.items) self.old.hearing.peers.items self.new.hearing.peers.items }
+        ensures me { self.new.hearing.me ≡ self.old.hearing.me }
+        ensures same { self.new ≡ record self.old { hearing = self.new.hearing; quiet = self.new.quiet; inbound = self.new.inbound; outbound = self.new.outbound; lost = self.new.lost } }
         ensures port { self.new.port ≡ self.old.port }
         ensures acks { self.new.outbound.acks ≡ self.old.outbound.acks }
         ensures counts { unknown self.new.faults self.new.losses self.new.empties ≡ unknown self.old.faults self.old.losses self.old.empties }
@@ -143,6 +149,9 @@ impl<P: Port, C: Clock> FlowPort<P, C> {
         ensures comes { OnOk result (Comes from (take len self.old.room.items) self.old.now self.old.hearing.peers.items self.old.inbound self.new.inbound) }
         ensures dropped { IsErrOf result Loss.Dropped → MayDrop from (take len self.old.room.items) self.old.hearing.peers.items self.old.inbound }
         ensures leaves_room { IsStranger from self.old.hearing.peers.items → self.new.inbound.peers ≡ self.old.inbound.peers }
+        ensures known { AreKnownBy self.old.hearing.me from (take len self.old.room.items) self.old.hearing.peers.items self.new.hearing.peers.items }
+        ensures me { self.new.hearing.me ≡ self.old.hearing.me }
+        ensures unchanged { OnErr result (SamePeers self.old.inbound.peers self.new.inbound.peers × SameClients self.old.inbound.clients self.new.inbound.clients) }
         ensures same { self.new ≡ record self.old { hearing = self.new.hearing; quiet = self.new.quiet; inbound = self.new.inbound; outbound = self.new.outbound } }
         ensures lost { self.new.lost ≡ self.old.lost }
         ensures acks { self.new.outbound.acks ≡ self.old.outbound.acks }
@@ -171,6 +180,8 @@ impl<P: Port, C: Clock> FlowPort<P, C> {
         ensures gives { NoMore (given_by (P.gives self.old.port) self.old.inbound) (given_by (P.gives self.new.port) self.new.inbound) }
         ensures sends { NoMore (P.may_send self.old.port) (P.may_send self.new.port) }
         ensures acks { self.new.outbound.acks ≡ self.old.outbound.acks }
+        ensures reads { ReadsAll self.old.has_failed self.new.has_failed self.old.now (state_of (P.meaning self.old.port) self.old) (state_of (P.meaning self.new.port) self.new) }
+        ensures now { self.new.now ≡ self.old.now }
         ensures counts { unknown self.new.faults self.new.losses self.new.empties ≡ unknown self.old.faults self.old.losses self.old.empties }
     {
         for _ in 0..MOST_TAKEN {
@@ -188,6 +199,8 @@ impl<P: Port, C: Clock> FlowPort<P, C> {
         ensures gives { NoMore (given_by (P.gives self.old.port) self.old.inbound) (given_by (P.gives self.new.port) self.new.inbound) }
         ensures sends { NoMore (P.may_send self.old.port) (P.may_send self.new.port) }
         ensures acks { self.new.outbound.acks ≡ self.old.outbound.acks }
+        ensures reads { ReadsOne self.old.has_failed self.new.has_failed self.old.now (state_of (P.meaning self.old.port) self.old) (state_of (P.meaning self.new.port) self.new) result }
+        ensures now { self.new.now ≡ self.old.now }
         ensures counts { unknown self.new.faults self.new.losses self.new.empties ≡ unknown self.old.faults self.old.losses self.old.empties }
     {
         if self.has_failed {
@@ -215,6 +228,9 @@ impl<P: Port, C: Clock> FlowPort<P, C> {
         ensures gives { NoMore (given_by (P.gives self.old.port) self.old.inbound) (given_by (P.gives self.new.port) self.new.inbound) }
         ensures sends { NoMore (P.may_send self.old.port) (P.may_send self.new.port) }
         ensures acks { self.new.outbound.acks ≡ self.old.outbound.acks }
+        ensures takes { TakesAndEnds self.old.has_failed self.old.now buf.old buf.new (state_of (P.meaning self.old.port) self.old) (state_of (P.meaning self.new.port) self.new) result }
+        ensures ready { OnOk result (self.new.has_failed ≡ self.old.has_failed) }
+        ensures failed { OnErr result (self.new.has_failed ≡ false) }
         ensures counts { unknown self.new.faults self.new.losses self.new.empties ≡ unknown self.old.faults self.old.losses self.old.empties }
     {
         let got = self.first_or_next(buf);
@@ -231,6 +247,9 @@ impl<P: Port, C: Clock> FlowPort<P, C> {
         ensures gives { NoMore (given_by (P.gives self.old.port) self.old.inbound) (given_by (P.gives self.new.port) self.new.inbound) }
         ensures sends { NoMore (P.may_send self.old.port) (P.may_send self.new.port) }
         ensures acks { self.new.outbound.acks ≡ self.old.outbound.acks }
+        ensures takes { TakesAndEnds self.old.has_failed self.old.now buf.old buf.new (state_of (P.meaning self.old.port) self.old) (state_of (P.meaning self.new.port) self.new) result }
+        ensures ready { OnOk result (self.new.has_failed ≡ self.old.has_failed) }
+        ensures failed { OnErr result (self.new.has_failed ≡ false) }
         ensures counts { unknown self.new.faults self.new.losses self.new.empties ≡ unknown self.old.faults self.old.losses self.old.empties }
     {
         if self.inbound.peers.ready() > 0 {
@@ -247,6 +266,9 @@ impl<P: Port, C: Clock> FlowPort<P, C> {
         ensures gives { NoMore (given_by (P.gives self.old.port) self.old.inbound) (given_by (P.gives self.new.port) self.new.inbound) }
         ensures sends { NoMore (P.may_send self.old.port) (P.may_send self.new.port) }
         ensures acks { self.new.outbound.acks ≡ self.old.outbound.acks }
+        ensures takes { TakesAndEnds self.old.has_failed self.old.now buf.old buf.new (state_of (P.meaning self.old.port) self.old) (state_of (P.meaning self.new.port) self.new) result }
+        ensures ready { OnOk result (self.new.has_failed ≡ self.old.has_failed) }
+        ensures failed { OnErr result (self.new.has_failed ≡ false) }
         ensures counts { unknown self.new.faults self.new.losses self.new.empties ≡ unknown self.old.faults self.old.losses self.old.empties }
     {
         for _ in 0..MOST_TAKEN {
@@ -264,6 +286,10 @@ impl<P: Port, C: Clock> FlowPort<P, C> {
         ensures gives { NoMore (given_by (P.gives self.old.port) self.old.inbound) (given_by (P.gives self.new.port) self.new.inbound) }
         ensures sends { NoMore (P.may_send self.old.port) (P.may_send self.new.port) }
         ensures acks { self.new.outbound.acks ≡ self.old.outbound.acks }
+        ensures takes { TakesOrEnds self.old.has_failed self.old.now buf.old buf.new (state_of (P.meaning self.old.port) self.old) (state_of (P.meaning self.new.port) self.new) result }
+        ensures ready { OnOk result (self.new.has_failed ≡ self.old.has_failed) }
+        ensures failed { OnErr result (self.new.has_failed ≡ false) }
+        ensures now { self.new.now ≡ self.old.now }
         ensures counts { unknown self.new.faults self.new.losses self.new.empties ≡ unknown self.old.faults self.old.losses self.old.empties }
         ensures nothing { IfOk result (λ got. IfSome got (λ up. up ≡ Recv.Nothing → NothingGoes self.new.now self.new.inbound self.new.outbound.window)) }
     {
@@ -281,6 +307,10 @@ impl<P: Port, C: Clock> FlowPort<P, C> {
         ensures gives { NoMore (given_by (P.gives self.old.port) self.old.inbound) (given_by (P.gives self.new.port) self.new.inbound) }
         ensures sends { NoMore (P.may_send self.old.port) (P.may_send self.new.port) }
         ensures acks { self.new.outbound.acks ≡ self.old.outbound.acks }
+        ensures takes { TakesOrEnds self.old.has_failed self.old.now buf.old buf.new (state_of (P.meaning self.old.port) self.old) (state_of (P.meaning self.new.port) self.new) result }
+        ensures ready { OnOk result (self.new.has_failed ≡ self.old.has_failed) }
+        ensures failed { OnErr result (self.new.has_failed ≡ false) }
+        ensures now { self.new.now ≡ self.old.now }
         ensures counts { unknown self.new.faults self.new.losses self.new.empties ≡ unknown self.old.faults self.old.losses self.old.empties }
         ensures nothing { IfOk result (λ got. IfSome got (λ up. up ≡ Recv.Nothing → NothingGoes self.new.now self.new.inbound self.new.outbound.window)) }
     {
@@ -302,6 +332,7 @@ impl<P: Port, C: Clock> FlowPort<P, C> {
         ensures goes { result ≢ Recv.Nothing → NextGoes self.old.inbound self.new.inbound buf.old buf.new result }
         ensures nothing { result ≡ Recv.Nothing → NothingGoes self.new.now self.new.inbound self.new.outbound.window }
         ensures some { result ≡ Recv.Nothing → self.old.inbound.peers.ready.items ≡ [] }
+        ensures stays { result ≡ Recv.Nothing → SameKept self.old.inbound self.new.inbound }
         ensures kept { IsOf (Cut (kept_in self.old.inbound)) buf.new result }
         ensures rest { NoMore (kept_in self.old.inbound) (kept_in self.new.inbound) }
         ensures same { self.new ≡ record self.old { inbound = self.new.inbound } }
@@ -322,6 +353,11 @@ impl<P: Port, C: Clock> FlowPort<P, C> {
         ensures sends { NoMore (P.may_send self.old.port) (P.may_send self.new.port) }
         ensures inbound { self.new.inbound ≡ self.old.inbound }
         ensures outbound { self.new.outbound ≡ self.old.outbound }
+        ensures answers { IsAnswer self.old.has_failed (P.meaning self.old.port) (P.meaning self.new.port) self.old.room.items self.new.room.items result }
+        ensures ready { OnOk result (self.new.has_failed ≡ self.old.has_failed) }
+        ensures failed { OnErr result (self.new.has_failed ≡ false) }
+        ensures same { self.new ≡ record self.old { port = self.new.port; room = self.new.room; has_failed = self.new.has_failed } }
+        ensures room { length self.new.room.items ≡ length self.old.room.items }
         ensures counts { unknown self.new.faults self.new.losses self.new.empties ≡ unknown self.old.faults self.old.losses self.old.empties }
     {
         if self.has_failed {
@@ -356,6 +392,9 @@ impl<P: Port, C: Clock> Port for FlowPort<P, C> {
         ensures hands_up { HandsUp (given_by (P.gives self.old.port) self.old.inbound) (given_by (P.gives self.new.port) self.new.inbound) (sent_with (P.may_send self.old.port) self.old.outbound.acks.acks.items) (sent_with (P.may_send self.new.port) self.new.outbound.acks.acks.items) buf.new result }
         ensures goes { self.old.inbound.peers.ready.items ≢ [] → IsOkAnd result (NextGoes self.old.inbound self.new.inbound buf.old buf.new) }
         ensures nothing { IfOk result (λ got. got ≡ Recv.Nothing → NothingGoes self.new.now self.new.inbound self.new.outbound.window) }
+        ensures takes { SendsAndTakes (map packet_of self.old.outbound.acks.acks.items) self.old.has_failed self.old.now buf.old buf.new (state_of (P.meaning self.old.port) self.old) (state_of (P.meaning self.new.port) self.new) result }
+        ensures ready { OnOk result (self.new.has_failed ≡ self.old.has_failed) }
+        ensures failed { OnErr result (self.new.has_failed ≡ false) }
     {
         self.outbound.acks.let_go(&mut self.port);
         match self.next_once(buf) {
@@ -377,6 +416,8 @@ impl<P: Port, C: Clock> Port for FlowPort<P, C> {
         ensures goes { Sends to bytes.now (P.meaning self.old.port) (P.meaning self.new.port) result ⊎ (IsOk result × (self.new.port ≡ self.old.port) × MayWait to bytes.now self.old.now self.old.outbound self.new.outbound) }
         ensures answered { (c : Command) → IsReplyTo c bytes.now → IsAnswered c self.new.inbound.clients.requests.unanswered.entries }
         ensures lost { OnErr result (Rose (P.meaning self.old.port).losses (P.meaning self.new.port).losses) }
+        ensures stays { StaysWhenSent self.old.inbound self.new.inbound }
+        ensures same { self.new ≡ record self.old { port = self.new.port; inbound = self.new.inbound; outbound = self.new.outbound; quiet = self.new.quiet; losses = self.new.losses } }
     {
         self.quiet.note(bytes, self.now);
         self.inbound.note_sent(bytes);
@@ -392,14 +433,22 @@ impl<P: Port, C: Clock> Port for FlowPort<P, C> {
         }
     }
 
-    fn reserve(&mut self, sends: u64, bytes: u64) -> Result<(), NoMemory> {
+    fn reserve(&mut self, sends: u64, bytes: u64) -> Result<(), NoMemory>
+        ensures reserves { Reserves sends bytes (unknown self.old.faults self.old.losses self.old.empties) (unknown self.new.faults self.new.losses self.new.empties) result }
+        ensures rests { Rests (given_by (P.gives self.old.port) self.old.inbound) (given_by (P.gives self.new.port) self.new.inbound) (sent_with (P.may_send self.old.port) self.old.outbound.acks.acks.items) (sent_with (P.may_send self.new.port) self.new.outbound.acks.acks.items) }
+        ensures reads { ReadsAhead self.old.has_failed self.new.has_failed self.new.now sends bytes (state_of (P.meaning self.old.port) self.old) (state_of (P.meaning self.new.port) self.new) result }
+    {
         self.now = self.clock.now();
         self.inbound.clients.look_at_clock(self.now);
         self.read_ahead();
         self.port.reserve(sends, bytes)
     }
 
-    fn poll_soon(&mut self) {
+    fn poll_soon(&mut self)
+        ensures same { unknown self.new.faults self.new.losses self.new.empties ≡ unknown self.old.faults self.old.losses self.old.empties }
+        ensures rests { Rests (given_by (P.gives self.old.port) self.old.inbound) (given_by (P.gives self.new.port) self.new.inbound) (sent_with (P.may_send self.old.port) self.old.outbound.acks.acks.items) (sent_with (P.may_send self.new.port) self.new.outbound.acks.acks.items) }
+        ensures soon { self.new ≡ record self.old { is_soon = true } }
+    {
         self.is_soon = true;
     }
 
@@ -408,6 +457,7 @@ impl<P: Port, C: Clock> Port for FlowPort<P, C> {
         ensures rests { Rests (given_by (P.gives self.old.port) self.old.inbound) (given_by (P.gives self.new.port) self.new.inbound) (sent_with (P.may_send self.old.port) self.old.outbound.acks.acks.items) (sent_with (P.may_send self.new.port) self.new.outbound.acks.acks.items) }
         ensures goes { (said : List Packet) × AllSay said × SendsAll (map packet_of self.old.outbound.acks.acks.items ++ said) (P.meaning self.old.port) (P.meaning self.new.port) }
         ensures none_held { self.new.outbound.acks.acks.items ≡ [] }
+        ensures stays { self.new ≡ record self.old { port = self.new.port; outbound = self.new.outbound; hearing = record self.old.hearing { said_at = self.new.hearing.said_at } } }
     {
         self.outbound.acks.let_go(&mut self.port);
         self.hearing.say(self.now, &mut self.port);

@@ -156,6 +156,7 @@ impl Hearing {
 
     /// Says to each peer whom this node hears, once a second.
     pub(crate) fn say<P: Port>(&mut self, now: u64, port: &mut P)
+        ensures same { self.new ≡ record self.old { said_at = self.new.said_at } }
         ensures said { (said : List Packet) × AllSay said × SendsAll said (P.meaning port.old) (P.meaning port.new) }
         ensures gives { NoMore (P.gives port.old) (P.gives port.new) }
         ensures sends { NoMore (either (P.may_send port.old) SaysHearing) (P.may_send port.new) }

@@ -4,6 +4,7 @@ ghost use Rattle.std.specs.Prelude.{◌≡◌, ◌≢◌, ◌⊎◌, [], IfOk, I
 ghost use Rattle.crsm_port.specs.Passing.{NoMore};
 ghost use Rattle.crsm_port_flow.specs.Kept.{kept_in};
 ghost use Rattle.crsm_port_flow.specs.Order.{FirstGoes, IsNotDue, IsTheirTurn, LatestGoes, NextGoes, NoneGoes, OldestGoes};
+ghost use Rattle.crsm_port_flow.specs.Same.{SameKept, StaysWhenSent};
 ghost use Rattle.crsm_port_flow.specs.Turns.{IsAnswered, IsReplyTo};
 ghost use Rattle.crsm_port_flow.specs.declared.commands.Command.{Command};
 
@@ -69,7 +70,7 @@ impl Inbound {
         ensures goes { IfSome result (NextGoes self.old self.new buf.old buf.new) }
         ensures none { result ≡ None → (self.old.peers.ready.items ≡ []) × (self.new.peers.ready.items ≡ []) }
         ensures nothing { result ≡ None → is_last ≡ true → IsNotDue now self.new.clients.operate × (admits ≡ true → NoneGoes now self.new.clients) }
-        ensures same { result ≡ None → NoMore (kept_in self.old) (kept_in self.new) }
+        ensures same { result ≡ None → SameKept self.old self.new }
     {
         match self.next_asked(now, admits, is_last) {
             NextAsked::Nothing => self.hand_up_of_peer(buf),
@@ -104,6 +105,7 @@ impl Inbound {
     /// Records what a datagram says that the replica sends.
     pub(crate) fn note_sent(&mut self, bytes: &[u8])
         ensures rest { NoMore (kept_in self.old) (kept_in self.new) }
+        ensures stays { StaysWhenSent self.old self.new }
         ensures answered { (c : Command) → IsReplyTo c bytes.now → IsAnswered c self.new.clients.requests.unanswered.entries }
     {
         if let Some(expected) = head_in(ACK, bytes) {

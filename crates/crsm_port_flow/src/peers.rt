@@ -33,15 +33,16 @@ pub(crate) struct FromPeers {
 }
 
 impl FromPeers {
-    ghost use Rattle.std.specs.Prelude.{◌⊎◌, ◌++◌, [], ◌∷◌, IfOk, IfSome, IsErrOf, OnOk, None};
+    ghost use Rattle.std.specs.Prelude.{◌⊎◌, ◌++◌, [], ◌∷◌, IfOk, IfSome, IsErrOf, OnErr, OnOk, None};
     ghost use Rattle.crsm_port.specs.Passing.{NoMore};
     ghost use Rattle.crsm_port_flow.specs.Early.{WaitsAs, kept_at};
     ghost use Rattle.crsm_port_flow.specs.Followed.{Follow, IsFollowed, IsFollowedFrom, NoneLost};
     ghost use Rattle.crsm_port_flow.specs.Heads.{HasHead};
-    ghost use Rattle.crsm_port_flow.specs.Kept.{KeepsOnly, of_peers};
+    ghost use Rattle.crsm_port_flow.specs.Kept.{Is, KeepsOnly, of_peers};
     ghost use Rattle.crsm_port_flow.specs.Lost.{HasNoRoomOfPeers, IsFullOfPeers};
     ghost use Rattle.crsm_port_flow.specs.Order.{FirstGoes};
-    ghost use Rattle.crsm_port_flow.specs.Taken.{Is, IsMadeReady, IsTaken, StaysReady};
+    ghost use Rattle.crsm_port_flow.specs.Same.{SamePeers};
+    ghost use Rattle.crsm_port_flow.specs.Taken.{IsMadeReady, IsTaken, StaysReady};
 
     /// Returns a state without datagrams, or `NoMemory` if memory runs out.
     pub(crate) fn new(alloc: Global) -> Result<FromPeers, NoMemory>
@@ -62,13 +63,14 @@ impl FromPeers {
     }
 
     /// Takes a datagram in, to be handed up in its order. `Dropped` if there is no room, and `NoMemory` if memory runs
-    /// out; the datagram is then lost, as any may be.
+    /// out; the datagram is then lost, as any may be, and nothing else.
     pub(crate) fn take_in(&mut self, from: u64, bytes: &[u8], now: u64) -> Result<(), Loss>
         ensures taken { OnOk result (IsTaken from bytes.now self.old self.new) }
         ensures dropped { IsErrOf result Loss.Dropped → HasNoRoomOfPeers bytes.now self.old }
         ensures followed { OnOk result (IsFollowed from bytes.now self.old self.new) }
         ensures none_lost { NoneLost self.old self.new }
         ensures stays { StaysReady self.old.ready.items self.new.ready.items }
+        ensures unchanged { OnErr result (SamePeers self.old self.new) }
         ensures only { KeepsOnly from bytes.now (of_peers self.old) (of_peers self.new) }
     {
         match head_in(FRAME, bytes) {
@@ -83,13 +85,11 @@ impl FromPeers {
         ensures dropped { IsErrOf result Loss.Dropped → IsFullOfPeers bytes.now self.old }
         ensures stays { StaysReady self.old.ready.items self.new.ready.items }
         ensures early { self.new.early ≡ self.old.early }
+        ensures unchanged { OnErr result (SamePeers self.old self.new) }
         ensures only { KeepsOnly from bytes.now (of_peers self.old) (of_peers self.new) }
     {
         let datagram = self.room.put(LIMITS, from, bytes)?;
-        if let Err(failed) = self.ready.push_back(datagram) {
-            self.room.take_back(failed.value);
-            return Err(Loss::NoMemory);
-        }
+        self.ready.push_back_reserved(datagram);
         Ok(())
     }
 
@@ -101,6 +101,7 @@ impl FromPeers {
         ensures followed { OnOk result (IsFollowedFrom frame.from frame.epoch frame.number from bytes.now self.old self.new) }
         ensures none_lost { NoneLost self.old self.new }
         ensures stays { StaysReady self.old.ready.items self.new.ready.items }
+        ensures unchanged { OnErr result (SamePeers self.old self.new) }
         ensures only { KeepsOnly from bytes.now (of_peers self.old) (of_peers self.new) }
     {
         match self.early.fate(frame) {
@@ -117,6 +118,7 @@ impl FromPeers {
         ensures followed { OnOk result (IsFollowedFrom frame.from frame.epoch frame.number from bytes.now self.old self.new) }
         ensures none_lost { NoneLost self.old self.new }
         ensures stays { StaysReady self.old.ready.items self.new.ready.items }
+        ensures unchanged { OnErr result (SamePeers self.old self.new) }
         ensures only { KeepsOnly from bytes.now (of_peers self.old) (of_peers self.new) }
     {
         self.make_ready(from, bytes)?;
@@ -131,6 +133,7 @@ impl FromPeers {
         ensures dropped { IsErrOf result Loss.Dropped → IsFullOfPeers bytes.now self.old ⊎ (kept_at frame.from frame.number self.old.early.frames.items ≡ None → ⊥) }
         ensures none_lost { NoneLost self.old self.new }
         ensures stays { StaysReady self.old.ready.items self.new.ready.items }
+        ensures unchanged { OnErr result (SamePeers self.old self.new) }
         ensures only { KeepsOnly from bytes.now (of_peers self.old) (of_peers self.new) }
     {
         let datagram = self.room.put(LIMITS, from, bytes)?;

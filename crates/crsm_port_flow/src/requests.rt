@@ -1,11 +1,11 @@
 //! Requests that wait until the node has room for them.
 
-ghost use Rattle.std.specs.Prelude.{◌≡◌, ◌⊎◌, ◌++◌, ◌∷◌, ◌≤◌, [], length, true, false, None, Some, IfOk, IfSome, IsErrOf, OnOk, OnErr};
-ghost use Rattle.crsm_port_flow.specs.Order.{HasNoRoom};
+ghost use Rattle.std.specs.Prelude.{◌≡◌, ◌⊎◌, ◌++◌, ◌∷◌, ◌<◌, ◌≤◌, [], length, true, false, None, Some, IfOk, IfSome};
+ghost use Rattle.std.specs.VecDeque.{deque_capacity};
 ghost use Rattle.crsm_port_flow.specs.Turns.{AreInTime, IsAnswered, IsOldestYoung, IsOver, IsSince, IsUnderWay, OthersStay, TakesFirst, reading_of};
 
 use crate::commands::Command;
-use crate::datagram::{Datagram, Loss};
+use crate::datagram::Datagram;
 use crate::time::is_recent;
 use crsm_base::NoMemory;
 use indexmap::IndexMap;
@@ -61,9 +61,12 @@ pub(crate) struct Requests {
     unanswered: IndexMap<Command, u64>,
     // These in the order in which it received them, with some that are answered.
     opened: VecDeque<Opened>,
+    ghost reserved: { 1_280 ≤ deque_capacity waiting },
 }
 
 impl Requests {
+    ghost use Rattle.crsm_port_flow.specs.Order.{HasNoRoom};
+
     /// Returns an empty record, or `NoMemory` if memory runs out.
     pub(crate) fn new(alloc: Global) -> Result<Requests, NoMemory>
         ensures { IfOk result (λ r. r.waiting.items ≡ []) }
@@ -80,6 +83,7 @@ impl Requests {
     pub(crate) fn fate(&self, command: Command, now: u64) -> RequestFate
         ensures repeat { result ≡ RequestFate.IsUnderWay → IsUnderWay command now self.now.waits.entries self.now.unanswered.entries }
         ensures full { result ≡ RequestFate.HasNoRoom → 1_280 ≤ length self.now.waiting.items }
+        ensures waits { result ≡ RequestFate.Waits → length self.now.waiting.items < 1_280 }
     {
         if self.is_under_way(command, now) {
             RequestFate::IsUnderWay
@@ -98,28 +102,20 @@ impl Requests {
             || is_since(&self.unanswered, command, now, OPEN_TIME)
     }
 
-    /// Appends a request to those that wait. `NoMemory` if memory runs out.
-    pub(crate) fn keep(
-        &mut self,
-        command: Command,
-        datagram: Datagram,
-        now: u64,
-    ) -> Result<(), Loss>
-        ensures full { IsErrOf result Loss.Dropped → ⊥ }
-        ensures last { OnOk result (self.new.waiting.items ≡ self.old.waiting.items ++ (record { command = command; datagram = datagram; since = now }) ∷ []) }
-        ensures same { OnErr result (self.new.waiting.items ≡ self.old.waiting.items) }
+    /// Appends a request to those that wait, of which there are fewer than 1,280.
+    pub(crate) fn keep(&mut self, command: Command, datagram: Datagram, now: u64)
+        requires { length self.old.waiting.items < 1_280 }
+        ensures last { self.new.waiting.items ≡ self.old.waiting.items ++ (record { command = command; datagram = datagram; since = now }) ∷ [] }
+        ensures unanswered { self.new.unanswered ≡ self.old.unanswered }
     {
         let request = Waiting {
             command,
             datagram,
             since: now,
         };
-        if self.waiting.push_back(request).is_err() {
-            return Err(Loss::NoMemory);
-        }
+        self.waiting.push_back_reserved(request);
         // Without memory for this its repeats wait, too.
         let _ = self.waits.insert(command, now);
-        Ok(())
     }
 
     /// Removes the oldest request if it has waited too long, and returns its datagram; or `None`.

@@ -1,4 +1,4 @@
-use Rattle.std.proofs.Common.{Err, ap, inl, subst, take}
+use Rattle.std.proofs.Common.{Err, ap, inl, inr, subst, take}
 use Rattle.crsm_port_flow.proofs.Losing.{lost_as}
 use Rattle.crsm_port_flow.specs.Losses.{CountsLoss}
 use Rattle.crsm_port_flow.specs.declared.datagram.Losses.{Losses}
@@ -9,7 +9,8 @@ returns-clause-comes g c =
     let s = c.args.self.now in
     let loss = c.in-Err.loss in
     let counted = subst (λ (before : Losses). CountsLoss loss before c.count.new.self) c.takes.ensures.lost c.count.ensures in
-    lost_as c.args.from (take c.args.len s.room.items) s.now s.hearing.peers.items s.inbound c.takes.new.self.inbound loss s.lost c.count.new.self (λ is. c.in-Err.ensures.dropped (ap Err is)) counted
+    let (peers, clients) = c.in-Err.ensures.unchanged in
+    inr (peers, clients, lost_as c.args.from (take c.args.len s.room.items) s.hearing.peers.items s.inbound loss s.lost c.count.new.self (λ is. c.in-Err.ensures.dropped (ap Err is)) counted)
 
 pub returns-in_default-clause-comes : goal.returns-in_default-clause-comes
-returns-in_default-clause-comes g c = inl c.in_default.ensures.comes
+returns-in_default-clause-comes g c = inl (c.in_default.ensures.comes, c.takes.ensures.lost)

@@ -30,3 +30,12 @@ returns-in-Err-clause-hands_up g c =
 
 pub returns-in-Ok-Datagram-clause-goes : goal.returns-in-Ok-Datagram-clause-goes
 returns-in-Ok-Datagram-clause-goes g c = λ ready. rw c.in-Ok-Datagram.field-0-is at (c.in-Ok-Datagram.ensures.goes ready)
+
+pub returns-in-Ok-Datagram-clause-takes : goal.returns-in-Ok-Datagram-clause-takes
+returns-in-Ok-Datagram-clause-takes g c = (g.P.Port.meaning c.let_go.new.port, c.let_go.ensures.each, rw c.in-Ok-Datagram.field-0-is at c.in-Ok-Datagram.ensures.takes)
+
+pub returns-in-Ok-Nothing-clause-takes : goal.returns-in-Ok-Nothing-clause-takes
+returns-in-Ok-Nothing-clause-takes g c = (g.P.Port.meaning c.let_go.new.port, c.let_go.ensures.each, rw c.in-Ok-Nothing.field-0-is at c.in-Ok-Nothing.ensures.takes)
+
+pub returns-in-Err-clause-takes : goal.returns-in-Err-clause-takes
+returns-in-Err-clause-takes g c = (g.P.Port.meaning c.let_go.new.port, c.let_go.ensures.each, c.in-Err.ensures.takes)

@@ -1,4 +1,5 @@
-use Rattle.crsm_port_flow.proofs.Keepings.{asked_next, first_next, peers_none, some_not_none}
+use Rattle.crsm_port_flow.proofs.Keepings.{asked_next, first_next, some_not_none}
+use Rattle.crsm_port_flow.proofs.Reading.{none_same}
 use Rattle.crsm_port_flow.proofs.inbound.Inbound.hand_up.Goals as goal
 
 pub returns-in-Nothing-clause-goes : goal.returns-in-Nothing-clause-goes
@@ -10,10 +11,8 @@ returns-in-Nothing-clause-goes c =
 
 pub returns-in-Nothing-clause-same : goal.returns-in-Nothing-clause-same
 returns-in-Nothing-clause-same c = λ none.
-    let mid = c.next_asked.new.self in
-    let waiting = c.next_asked.ensures.waiting in
     let (was, is, early) = c.hand_up_of_peer.ensures.none none in
-    peers_none c.args.self.now mid c.hand_up_of_peer.new.self c.args.buf.now c.hand_up_of_peer.new.buf c.next_asked.ensures.peers.0 waiting c.next_asked.ensures.operate c.hand_up_of_peer.ensures.clients is early
+    none_same c.args.self.now c.next_asked.new.self c.hand_up_of_peer.new.self c.next_asked.ensures.peers.0 c.next_asked.ensures.waiting c.next_asked.ensures.operate c.hand_up_of_peer.ensures.clients was is early
 
 pub returns-in_default : goal.returns-in_default
 returns-in_default c =
