@@ -13,7 +13,7 @@ use Rattle.crsm_port_flow.specs.Kept.{GoesUp, early_in, kept_in, operate_in, pac
 use Rattle.crsm_port_flow.specs.Lost.{TakesIn}
 use Rattle.crsm_port_flow.specs.Order.{NextGoes}
 use Rattle.crsm_port_flow.specs.Reads.{Answers, Ends, IsAnswer, ReadsNone, ReadsOne, SameRest, Stands, State, StaysAbove, TakesAll, TakesAndEnds, TakesOne, TakesOrEnds, state_of}
-use Rattle.crsm_port_flow.specs.Same.{SameKept, SamePeers}
+use Rattle.crsm_port_flow.specs.Same.{SameKept}
 use Rattle.crsm_port_flow.specs.declared.clients.Clients.{Clients}
 use Rattle.crsm_port_flow.specs.declared.clients.Operate.{Operate}
 use Rattle.crsm_port_flow.specs.declared.datagram.Datagram.{Datagram as Kept}
@@ -25,9 +25,6 @@ use Rattle.crsm_port_flow.specs.declared.peers.FromPeers.{FromPeers}
 use Rattle.crsm_port_flow.specs.declared.requests.Waiting.{Waiting}
 
 -- ---- what stays
-
-pub peers_as_they_are : (p : FromPeers) → SamePeers p p
-peers_as_they_are p = (refl, refl, refl)
 
 pub kept_as_it_is : (i : Inbound) → SameKept i i
 kept_as_it_is i = ((refl, refl, refl), refl, refl)
