@@ -7,16 +7,16 @@ ghost use Rattle.crsm_mpreplica.specs.Fitting.{FitsAccept, FitsMessage};
 ghost use Rattle.crsm_mpreplica.specs.State.{Makes, MakesWhere, WhereStands};
 ghost use Rattle.crsm_mpcore.specs.Parts.{accept_once, ask_to_accept};
 
-use crsm_base::{Ballot, Command, NoMemory, ballot_precedes};
+use crsm_base::{Ballot, NoMemory, ballot_precedes};
 use crsm_mpreplica::MpReplica;
-use crsm_mpspec::{MpMessage, copy_value};
+use crsm_mpspec::{MpMessage, SharedCommand, share_value};
 
 /// Proposes the value that an earlier ballot may have proposed at a slot, or a noop.
 pub(crate) fn propose(
     state: &mut MpReplica,
     ballot: Ballot,
     slot: u64,
-    value: &Option<Command>,
+    value: &Option<SharedCommand>,
 ) -> Result<(), NoMemory>
     ensures { MakesWhere (λ x. FitsAccept slot ballot value.now) (deciding.propose ballot slot value.now) state.old result state.new }
 {
@@ -30,14 +30,14 @@ pub(crate) fn submit(
     state: &mut MpReplica,
     ballot: Ballot,
     slot: u64,
-    command: &Command,
+    command: &SharedCommand,
 ) -> Result<(), NoMemory>
     ensures { MakesWhere (λ x. FitsAccept slot ballot (Some command.now)) (deciding.submit ballot slot command.now) state.old result state.new }
 {
-    let awaited = command.copy(state.alloc())?;
+    let awaited = command.share()?;
     state.await_command(slot, awaited)?;
     state.submit(slot, ballot, command)?;
-    let value = Some(command.copy(state.alloc())?);
+    let value = Some(command.share()?);
     ask_to_accept(state, ballot, slot, &value)?;
     Ok(())
 }
@@ -47,7 +47,7 @@ fn ask_to_accept(
     state: &mut MpReplica,
     ballot: Ballot,
     slot: u64,
-    value: &Option<Command>,
+    value: &Option<SharedCommand>,
 ) -> Result<(), NoMemory>
     ensures { MakesWhere (λ x. FitsAccept slot ballot value.now) (ask_to_accept ballot slot value.now) state.old result state.new }
 {
@@ -55,7 +55,7 @@ fn ask_to_accept(
     let message = MpMessage::Acc {
         ballot,
         slot,
-        value: copy_value(state.alloc(), value)?,
+        value: share_value(value)?,
     };
     state.send_to_others(&message)?;
     choose_voted(state, slot)?;
@@ -72,7 +72,7 @@ fn choose_voted(state: &mut MpReplica, slot: u64) -> Result<(), NoMemory>
     let Some((_, accepted)) = state.ledger().accepted(slot) else {
         return Ok(());
     };
-    let value = copy_value(state.alloc(), accepted)?;
+    let value = share_value(accepted)?;
     state.choose(slot, &value)?;
     state.send_to_others(&MpMessage::Learn { slot, value })?;
     Ok(())
@@ -85,7 +85,7 @@ pub(crate) fn on_acc(
     from: u32,
     ballot: Ballot,
     slot: u64,
-    value: &Option<Command>,
+    value: &Option<SharedCommand>,
 ) -> Result<(), NoMemory>
     ensures { MakesWhere (λ x. FitsAccept slot ballot value.now) (deciding.on_acc from ballot slot value.now) state.old result state.new }
 {
@@ -104,7 +104,7 @@ fn accept_once(
     state: &mut MpReplica,
     ballot: Ballot,
     slot: u64,
-    value: &Option<Command>,
+    value: &Option<SharedCommand>,
 ) -> Result<(), NoMemory>
     ensures { MakesWhere (λ x. FitsAccept slot ballot value.now) (accept_once ballot slot value.now) state.old result state.new }
 {

@@ -6,9 +6,9 @@ ghost use Rattle.crsm_mpspec.specs.Electing.{greater_held, reported_at};
 ghost use Rattle.crsm_mpspec.specs.Replica.{Report as ReportOnPaper};
 ghost use Rattle.crsm_mpreplica.specs.Fitting.{FitsAccepted, FitsChosen};
 
-use crsm_base::{Ballot, Command, NoMemory, ballot_precedes};
+use crsm_base::{Ballot, NoMemory, ballot_precedes};
 use crsm_mpreplica::MpReport;
-use crsm_mpspec::{MpAccepted, MpChosen, copy_value};
+use crsm_mpspec::{MpAccepted, MpChosen, SharedCommand, share_value};
 use std::alloc::Global;
 use std::collections::BTreeMap;
 
@@ -19,8 +19,8 @@ pub(crate) struct Findings {
     alloc: Global,
     /// The slot after all that are reported.
     next: u64,
-    chosen: BTreeMap<u64, Option<Command>>,
-    best: BTreeMap<u64, (Ballot, Option<Command>)>,
+    chosen: BTreeMap<u64, Option<SharedCommand>>,
+    best: BTreeMap<u64, (Ballot, Option<SharedCommand>)>,
 }
 
 impl Findings {
@@ -75,7 +75,7 @@ impl Findings {
         if self.chosen.contains_key(&chosen.slot) {
             return Ok(());
         }
-        let value = copy_value(self.alloc, &chosen.value)?;
+        let value = share_value(&chosen.value)?;
         self.chosen.insert(chosen.slot, value)?;
         Ok(())
     }
@@ -88,7 +88,7 @@ impl Findings {
         if !self.is_greater(accepted) {
             return Ok(());
         }
-        let value = copy_value(self.alloc, &accepted.value)?;
+        let value = share_value(&accepted.value)?;
         self.best.insert(accepted.slot, (accepted.ballot, value))?;
         Ok(())
     }
@@ -105,18 +105,18 @@ impl Findings {
     }
 
     /// Returns the values known to be chosen, by slot.
-    pub(crate) fn chosen(&self) -> &BTreeMap<u64, Option<Command>>
+    pub(crate) fn chosen(&self) -> &BTreeMap<u64, Option<SharedCommand>>
         ensures { result.now ≡ self.now.chosen }
     {
         &self.chosen
     }
 
     /// Returns the value that must be proposed at a slot: a noop if none is reported.
-    pub(crate) fn value_at(&self, slot: u64) -> Result<Option<Command>, NoMemory>
+    pub(crate) fn value_at(&self, slot: u64) -> Result<Option<SharedCommand>, NoMemory>
         ensures { IfOk result (λ value. (start : ℕ) (reports : List ReportOnPaper) → AreFindings self.now start reports → value ≡ reported_at slot reports) }
     {
         match self.best.get(&slot) {
-            Some((_, value)) => copy_value(self.alloc, value),
+            Some((_, value)) => share_value(value),
             None => Ok(None),
         }
     }

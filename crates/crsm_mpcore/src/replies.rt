@@ -23,7 +23,7 @@ pub(crate) fn replies(state: &mut MpReplica) -> Result<(), NoMemory>
         let Some((slot, command)) = state.next_due() else {
             return Ok(());
         };
-        let line = reply_line(state, slot, &command)?;
+        let line = reply_line(state, slot, command.get())?;
         state.reply(line)?;
     }
     Ok(())

@@ -10,7 +10,7 @@ ghost use Rattle.crsm_mpcore.specs.Requests.{IsNext, refusal_code};
 use crate::deciding::submit;
 use crsm_base::{Ballot, Command, NoMemory};
 use crsm_mpreplica::{MpReplica, Note};
-use crsm_mpspec::MpLine;
+use crsm_mpspec::{MpLine, SharedCommand};
 
 /// The reason for refusing a command, with its code in the reply.
 #[derive(Clone, Copy)]
@@ -20,7 +20,7 @@ enum MpRefusal {
 }
 
 /// Handles a client's command: only a leader in the promised ballot accepts it, at the next slot.
-pub(crate) fn on_request(state: &mut MpReplica, command: &Command) -> Result<(), NoMemory>
+pub(crate) fn on_request(state: &mut MpReplica, command: &SharedCommand) -> Result<(), NoMemory>
     ensures { MakesWhere (λ x. FitsCommand command.now) (deciding.on_request command.now) state.old result state.new }
 {
     match next_slot(state) {
@@ -30,7 +30,7 @@ pub(crate) fn on_request(state: &mut MpReplica, command: &Command) -> Result<(),
             Ok(())
         }
         Err(why) => {
-            refuse(state, command, why)?;
+            refuse(state, command.get(), why)?;
             Ok(())
         }
     }

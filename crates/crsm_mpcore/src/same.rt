@@ -5,14 +5,15 @@ ghost use Rattle.std.specs.Option.{option_eq};
 ghost use Rattle.crsm_mpspec.specs.Values as values;
 
 use crsm_base::{Command, Key, Op, Val};
+use crsm_mpspec::SharedCommand;
 
 /// Returns whether the value of a slot is this command.
 #[tactic(auto, unfolding(crsm_mpspec::specs::Values::is_command))]
-pub(crate) fn is_command(command: &Command, value: &Option<Command>) -> bool
+pub(crate) fn is_command(command: &Command, value: &Option<SharedCommand>) -> bool
     ensures { result ≡ values.is_command command.now value.now }
 {
     match value {
-        Some(chosen) => is_same(command, chosen),
+        Some(chosen) => is_same(command, chosen.get()),
         None => false,
     }
 }

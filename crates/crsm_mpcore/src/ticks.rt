@@ -10,7 +10,7 @@ ghost use Rattle.crsm_mpcore.specs.Ticks.{IsOpen, proposal, propose_slot, questi
 
 use crsm_base::{MAX_SENT_AGAIN, NoMemory, is_among};
 use crsm_mpreplica::{Leading, MpReplica, Note};
-use crsm_mpspec::{MpMessage, copy_value};
+use crsm_mpspec::{MpMessage, share_value};
 use std::alloc::Global;
 use std::collections::BTreeMap;
 
@@ -121,7 +121,7 @@ fn proposal_to(state: &MpReplica, slot: u64, to: u32) -> Result<Option<MpMessage
     Ok(Some(MpMessage::Acc {
         ballot: leading.ballot,
         slot,
-        value: copy_value(state.alloc(), accepted)?,
+        value: share_value(accepted)?,
     }))
 }
 

@@ -5,8 +5,9 @@ ghost use Rattle.std.specs.Option.{option_copied};
 ghost use Rattle.crsm_mpspec.specs.Types.{Value};
 ghost use Rattle.crsm_mpledger.specs.Executed.{ExecutionsStand, WhereExecuted, executions_of};
 
-use crsm_base::{Answer, Command, NoMemory};
+use crsm_base::{Answer, NoMemory};
 use crsm_kv::Store;
+use crsm_mpspec::SharedCommand;
 use std::alloc::Global;
 
 /// The execution of a slot.
@@ -60,7 +61,7 @@ impl Executions {
 
     /// Executes the next slot. `NoMemory` if memory runs out.
     #[tactic(auto, unfolding(crsm_mpspec::specs::Values::rows_after, crsm_mpspec::specs::Values::apply_value, crsm_mpspec::specs::Values::answer_after))]
-    pub(crate) fn execute(&mut self, value: &Option<Command>) -> Result<(), NoMemory>
+    pub(crate) fn execute(&mut self, value: &Option<SharedCommand>) -> Result<(), NoMemory>
         ensures { OnOk result (WhereExecuted self.old (λ values. ExecutionsStand self.new (values ++ value.now ∷ []))) }
     {
         match value {
@@ -69,10 +70,11 @@ impl Executions {
                 Ok(())
             }
             Some(command) => {
-                let answer = self.store.apply(command)?;
+                let own = command.get();
+                let answer = self.store.apply(own)?;
                 self.slots.push(Execution::Applied {
-                    client: command.client,
-                    number: command.number,
+                    client: own.client,
+                    number: own.number,
                     answer,
                 })?;
                 Ok(())

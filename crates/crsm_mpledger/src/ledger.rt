@@ -10,13 +10,13 @@ ghost use Rattle.crsm_mpledger.specs.Sound.{IsSound, MayFollow};
 
 use crate::by_slot::BySlot;
 use crate::executions::Executions;
-use crsm_base::{Ballot, Command, NoMemory};
-use crsm_mpspec::{MpRec, copy_value};
+use crsm_base::{Ballot, NoMemory};
+use crsm_mpspec::{MpRec, SharedCommand, share_value};
 use std::alloc::Global;
 
 /// Executes the slots after the executed ones, up to the first whose value is not known.
 fn execute_known(
-    chosen: &BySlot<Option<Command>>,
+    chosen: &BySlot<Option<SharedCommand>>,
     executions: &mut Executions,
 ) -> Result<(), NoMemory>
     ensures { OnOk result ((log : Log) → IsSound log → SlotsStand chosen.now (by_slot (choices log)) → (done : ℕ) → length (run_from done 0 log) ≡ done →
@@ -38,9 +38,9 @@ pub struct MpLedger {
     pub(crate) boots: u64,
     pub(crate) promised: Ballot,
     /// The value accepted last at each slot, with its ballot.
-    pub(crate) accepted: BySlot<(Ballot, Option<Command>)>,
+    pub(crate) accepted: BySlot<(Ballot, Option<SharedCommand>)>,
     /// The value of each slot that is known to be chosen.
-    pub(crate) chosen: BySlot<Option<Command>>,
+    pub(crate) chosen: BySlot<Option<SharedCommand>>,
     /// The executed slots: all up to the first whose value is not known.
     pub(crate) executions: Executions,
 }
@@ -69,7 +69,12 @@ impl MpLedger {
     }
 
     /// Records the acceptance of a value, and the promise of its ballot.
-    fn accept(&mut self, slot: u64, ballot: Ballot, value: Option<Command>) -> Result<(), NoMemory>
+    fn accept(
+        &mut self,
+        slot: u64,
+        ballot: Ballot,
+        value: Option<SharedCommand>,
+    ) -> Result<(), NoMemory>
         ensures { OnOk result (WhereLedger self.old (λ log. MayFollow log (Record.Accept slot ballot value) → MpLedgerStands self.new (Record.Accept slot ballot value ∷ log))) }
     {
         self.accepted.insert(slot, (ballot, value))?;
@@ -78,7 +83,7 @@ impl MpLedger {
     }
 
     /// Records the chosen value of a slot, and executes it and its successors once all before it are executed.
-    fn choose(&mut self, slot: u64, value: Option<Command>) -> Result<(), NoMemory>
+    fn choose(&mut self, slot: u64, value: Option<SharedCommand>) -> Result<(), NoMemory>
         ensures { OnOk result (WhereLedger self.old (λ log. MayFollow log (Record.Choose slot value) → MpLedgerStands self.new (Record.Choose slot value ∷ log))) }
     {
         self.chosen.insert(slot, value)?;
@@ -105,12 +110,12 @@ impl MpLedger {
                 ballot,
                 value,
             } => {
-                let value = copy_value(self.alloc, value)?;
+                let value = share_value(value)?;
                 self.accept(*slot, *ballot, value)?;
                 Ok(())
             }
             MpRec::Choose { slot, value } => {
-                let value = copy_value(self.alloc, value)?;
+                let value = share_value(value)?;
                 self.choose(*slot, value)?;
                 Ok(())
             }

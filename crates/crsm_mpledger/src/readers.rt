@@ -8,7 +8,8 @@ ghost use Rattle.crsm_mpledger.specs.MpLedger.{WhereLedger, executed_in};
 
 use crate::executions::Execution;
 use crate::ledger::MpLedger;
-use crsm_base::{Ballot, Command};
+use crsm_base::Ballot;
+use crsm_mpspec::SharedCommand;
 
 impl MpLedger {
     /// Returns the number of boots of the replica.
@@ -26,7 +27,7 @@ impl MpLedger {
     }
 
     /// Returns the value accepted last at a slot, with its ballot, or `None` if none was.
-    pub fn accepted(&self, slot: u64) -> Option<&(Ballot, Option<Command>)>
+    pub fn accepted(&self, slot: u64) -> Option<&(Ballot, Option<SharedCommand>)>
         ensures { WhereLedger self.now (λ log. option_copied result ≡ logs.accepted_at slot log) }
     {
         self.accepted.get(slot)
@@ -48,7 +49,7 @@ impl MpLedger {
     }
 
     /// Returns the value at a slot, or `None` if it is not executed.
-    pub fn executed(&self, slot: u64) -> Option<&Option<Command>>
+    pub fn executed(&self, slot: u64) -> Option<&Option<SharedCommand>>
         ensures { WhereLedger self.now (λ log. option_copied result ≡ slice_get (logs.executed log) slot) }
     {
         if slot < self.executions.len() {

@@ -6,7 +6,7 @@ ghost use Rattle.crsm_mpledger.specs.MpLedger.{WhereLedger};
 
 use crate::ledger::MpLedger;
 use crsm_base::NoMemory;
-use crsm_mpspec::{MpAccepted, MpAccepts, MpChoices, MpChosen, copy_value};
+use crsm_mpspec::{MpAccepted, MpAccepts, MpChoices, MpChosen, share_value};
 
 impl MpLedger {
     /// Returns the value accepted last at each slot from `start` on, by slot. `NoMemory` if memory runs out.
@@ -14,24 +14,25 @@ impl MpLedger {
     pub fn accepted_from(&self, start: u64) -> Result<MpAccepts, NoMemory>
         ensures { IfOk result (λ accepts. WhereLedger self.now (λ log. accepts ≡ logs.accepted_from start log)) }
     {
-        let mut accepts = MpAccepts::new(self.alloc);
+        let mut accepts = Vec::new(self.alloc);
         let first = self.accepted.prefix();
         for slot in start..first.len() as u64 {
             let (ballot, value) = &first[slot as usize];
             accepts.push(MpAccepted {
                 slot,
                 ballot: *ballot,
-                value: copy_value(self.alloc, value)?,
+                value: share_value(value)?,
             })?;
         }
         for (slot, (ballot, value)) in self.accepted.beyond().range(start..) {
             accepts.push(MpAccepted {
                 slot: *slot,
                 ballot: *ballot,
-                value: copy_value(self.alloc, value)?,
+                value: share_value(value)?,
             })?;
         }
-        Ok(accepts)
+        let list = MpAccepts::new(self.alloc, accepts)?;
+        Ok(list)
     }
 
     /// Returns the values known to be chosen at the slots from `start` on, by slot. `NoMemory` if memory runs out.
@@ -39,21 +40,22 @@ impl MpLedger {
     pub fn chosen_from(&self, start: u64) -> Result<MpChoices, NoMemory>
         ensures { IfOk result (λ choices. WhereLedger self.now (λ log. choices ≡ logs.chosen_from start log)) }
     {
-        let mut choices = MpChoices::new(self.alloc);
+        let mut choices = Vec::new(self.alloc);
         let first = self.chosen.prefix();
         for slot in start..first.len() as u64 {
             let value = &first[slot as usize];
             choices.push(MpChosen {
                 slot,
-                value: copy_value(self.alloc, value)?,
+                value: share_value(value)?,
             })?;
         }
         for (slot, value) in self.chosen.beyond().range(start..) {
             choices.push(MpChosen {
                 slot: *slot,
-                value: copy_value(self.alloc, value)?,
+                value: share_value(value)?,
             })?;
         }
-        Ok(choices)
+        let list = MpChoices::new(self.alloc, choices)?;
+        Ok(list)
     }
 }

@@ -2,25 +2,47 @@
 
 ghost use Rattle.std.specs.Prelude.{◌≡◌, ◌++◌, IfOk, OnOk};
 ghost use Rattle.std.specs.Option.{option_map};
-ghost use Rattle.crsm_base.specs.Spelling.{command_bytes, FitsCommand, option_bytes, FitsOption};
+ghost use Rattle.crsm_base.specs.Reading.{command_at};
+ghost use Rattle.crsm_base.specs.Spelling.{command_bytes, FitsCommand, option_bytes};
 ghost use Rattle.crsm_mpledger.specs.Reading.{value_at};
 
 use crsm_base::{Bytes, Command, NoMemory};
+use crsm_mpspec::SharedCommand;
 use crsm_text_fields::{put_command, put_u8, take_command};
 use std::alloc::Global;
 
+/// Returns a command of one owner, with its encoding. `NoMemory` if memory runs out.
+pub fn share_command(alloc: Global, command: Command) -> Result<SharedCommand, NoMemory>
+    requires { FitsCommand command }
+    ensures { IfOk result (λ shared. shared ≡ command) }
+{
+    let mut bytes = Bytes::new(alloc);
+    put_command(&command, &mut bytes)?;
+    SharedCommand::new(alloc, command, bytes)
+}
+
 /// Appends the encoding of the value of a slot. `NoMemory` if memory runs out.
-pub(crate) fn put_value(value: &Option<Command>, out: &mut Bytes) -> Result<(), NoMemory>
-    requires { FitsOption FitsCommand value.now }
+pub(crate) fn put_value(value: &Option<SharedCommand>, out: &mut Bytes) -> Result<(), NoMemory>
     ensures { OnOk result (out.new ≡ out.old ++ option_bytes command_bytes value.now) }
 {
     match value {
         None => put_u8(0, out),
         Some(command) => {
             put_u8(1, out)?;
-            put_command(command, out)
+            out.append(command.as_bytes())
         }
     }
+}
+
+/// Parses a command from the prefix of the bytes, and returns it with the bytes after it. `None` if none begins there;
+/// `NoMemory` if memory runs out.
+fn take_shared(alloc: Global, bytes: &[u8]) -> Result<Option<(SharedCommand, &[u8])>, NoMemory>
+    ensures { IfOk result (λ r. option_map (λ x. (x.0, x.1.now)) r ≡ command_at bytes.now) }
+{
+    let Some((command, rest)) = take_command(alloc, bytes)? else {
+        return Ok(None);
+    };
+    Ok(Some((share_command(alloc, command)?, rest)))
 }
 
 #[tactic(auto, unfolding(crate::specs::Reading::value_at))]
@@ -29,14 +51,14 @@ pub(crate) fn put_value(value: &Option<Command>, out: &mut Bytes) -> Result<(), 
 pub(crate) fn take_value(
     alloc: Global,
     bytes: &[u8],
-) -> Result<Option<(Option<Command>, &[u8])>, NoMemory>
+) -> Result<Option<(Option<SharedCommand>, &[u8])>, NoMemory>
     ensures { IfOk result (λ r. option_map (λ x. (x.0, x.1.now)) r ≡ value_at bytes.now) }
 {
     match bytes {
         [] => Ok(None),
         [0, rest @ ..] => Ok(Some((None, rest))),
         [1, rest @ ..] => {
-            let Some((command, rest)) = take_command(alloc, rest)? else {
+            let Some((command, rest)) = take_shared(alloc, rest)? else {
                 return Ok(None);
             };
             Ok(Some((Some(command), rest)))

@@ -52,8 +52,8 @@ impl MpReplica {
             return Ok(false);
         }
         let report = MpReport {
-            accepted: accepted.copy(self.alloc)?,
-            chosen: chosen.copy(self.alloc)?,
+            accepted: accepted.share()?,
+            chosen: chosen.share()?,
         };
         self.add_report(from, report)?;
         Ok(true)

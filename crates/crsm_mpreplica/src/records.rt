@@ -21,9 +21,9 @@ ghost use Rattle.crsm_mpreplica.specs.State.{MakesWhere};
 use crate::made::StepOutput;
 use crate::note::{Note, close, end_below};
 use crate::state::MpReplica;
-use crsm_base::{Ballot, Command, NoMemory};
+use crsm_base::{Ballot, NoMemory};
 use crsm_mpledger::{Execution, MpLedger, executed_slots_grow, executions_are_by_slot};
-use crsm_mpspec::{MpLine, MpRec, copy_value};
+use crsm_mpspec::{MpLine, MpRec, SharedCommand, share_value};
 use std::alloc::Global;
 
 /// Applies a record, and adds it with its line to the output.
@@ -69,7 +69,7 @@ impl MpReplica {
         line: MpLine,
         slot: u64,
         ballot: Ballot,
-        value: Option<Command>,
+        value: Option<SharedCommand>,
     ) -> Result<(), NoMemory>
         ensures { MakesWhere (λ x. FitsAccept slot ballot value) (drafts.keep_as line (Record.Accept slot ballot value)) self.old result self.new }
     {
@@ -88,7 +88,7 @@ impl MpReplica {
         &mut self,
         slot: u64,
         ballot: Ballot,
-        value: &Option<Command>,
+        value: &Option<SharedCommand>,
     ) -> Result<(), NoMemory>
         ensures { MakesWhere (λ x. FitsAccept slot ballot value.now) (drafts.keep (Record.Accept slot ballot value.now)) self.old result self.new }
     {
@@ -98,31 +98,37 @@ impl MpReplica {
             round: ballot.round,
             by: ballot.by,
         };
-        let value = copy_value(self.alloc, value)?;
+        let value = share_value(value)?;
         self.accept_as(line, slot, ballot, value)?;
         Ok(())
     }
 
     /// Accepts a client's command. `NoMemory` if memory runs out.
-    pub fn submit(&mut self, slot: u64, ballot: Ballot, command: &Command) -> Result<(), NoMemory>
+    pub fn submit(
+        &mut self,
+        slot: u64,
+        ballot: Ballot,
+        command: &SharedCommand,
+    ) -> Result<(), NoMemory>
         ensures { MakesWhere (λ x. FitsAccept slot ballot (Some command.now)) (λ x. drafts.keep_as (Line.Submit x.replica.me slot ballot.round ballot.by command.now.client command.now.number) (Record.Accept slot ballot (Some command.now)) x) self.old result self.new }
     {
+        let own = command.get();
         let line = MpLine::Submit {
             replica: self.me,
             slot,
             round: ballot.round,
             by: ballot.by,
-            client: command.client,
-            number: command.number,
+            client: own.client,
+            number: own.number,
         };
-        let value = Some(command.copy(self.alloc)?);
+        let value = Some(command.share()?);
         self.accept_as(line, slot, ballot, value)?;
         Ok(())
     }
 
     /// Records the chosen value of a slot, unless it is known, and executes it and its successors once all before it
     /// are executed. `NoMemory` if memory runs out.
-    pub fn choose(&mut self, slot: u64, value: &Option<Command>) -> Result<(), NoMemory>
+    pub fn choose(&mut self, slot: u64, value: &Option<SharedCommand>) -> Result<(), NoMemory>
         ensures { MakesWhere (λ x. FitsChoice slot value.now) (deciding.choose slot value.now) self.old result self.new }
     {
         if self.ledger.is_chosen(slot) {
@@ -130,7 +136,7 @@ impl MpReplica {
         }
         executed_slots_grow();
         let before = self.ledger.executed_len();
-        let value = copy_value(self.alloc, value)?;
+        let value = share_value(value)?;
         let line = MpLine::Choose {
             replica: self.me,
             slot,

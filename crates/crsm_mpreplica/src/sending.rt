@@ -23,7 +23,7 @@ impl MpReplica {
     {
         for to in 0..self.n {
             if to != self.me {
-                let copy = message.copy(self.alloc)?;
+                let copy = message.copy()?;
                 self.send(to, copy)?;
             }
         }

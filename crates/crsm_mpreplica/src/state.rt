@@ -8,9 +8,8 @@ ghost use Rattle.crsm_mpledger.specs.MpLedger.{MpLedgerStands};
 
 use crate::made::StepOutput;
 use crate::note::Note;
-use crsm_base::Command;
 use crsm_mpledger::MpLedger;
-use crsm_mpspec::MpBatch;
+use crsm_mpspec::{MpBatch, SharedCommand};
 use std::alloc::Global;
 use std::collections::BTreeMap;
 
@@ -23,7 +22,7 @@ pub struct MpReplica {
     pub(crate) ledger: MpLedger,
     pub(crate) note: Note,
     /// The commands of waiting clients, by slot.
-    pub(crate) waiting: BTreeMap<u64, Command>,
+    pub(crate) waiting: BTreeMap<u64, SharedCommand>,
     pub(crate) made: StepOutput,
     ghost mine: { me < n },
     ghost most: { n ≤ 15 },

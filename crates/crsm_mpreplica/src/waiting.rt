@@ -7,11 +7,12 @@ ghost use Rattle.crsm_mpreplica.specs.State.{IsFirstDue, Makes, MpReplicaStands,
 
 use crate::slots::push_slot;
 use crate::state::MpReplica;
-use crsm_base::{Command, NoMemory};
+use crsm_base::NoMemory;
+use crsm_mpspec::SharedCommand;
 
 impl MpReplica {
     /// Records that a client waits for its command at a slot. `NoMemory` if memory runs out.
-    pub fn await_command(&mut self, slot: u64, command: Command) -> Result<(), NoMemory>
+    pub fn await_command(&mut self, slot: u64, command: SharedCommand) -> Result<(), NoMemory>
         ensures { Makes (drafts.await slot command) self.old result self.new }
     {
         push_slot(&mut self.waiting, slot, command)?;
@@ -27,7 +28,7 @@ impl MpReplica {
 
     /// Removes and returns the command of the client that waits at the least slot, with the slot, if that is executed.
     /// `None` changes nothing.
-    pub fn next_due(&mut self) -> Option<(u64, Command)>
+    pub fn next_due(&mut self) -> Option<(u64, SharedCommand)>
         ensures first { IfSome result (λ due. WhereStands self.old (λ x. x.replica.waiting ≡ waiting_of due ∷ drop 1 x.replica.waiting)) }
         ensures executed { IfSome result (λ due. WhereStands self.old (λ x. due.0 < length (executed x.replica.log))) }
         ensures rest { IfSome result (λ due. WhereStands self.old (λ x. MpReplicaStands self.new (with_waiting (drop 1 x.replica.waiting) x))) }

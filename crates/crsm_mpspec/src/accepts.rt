@@ -1,37 +1,25 @@
 //! The values that a replica has accepted.
 
-ghost use Rattle.std.specs.Prelude.{◌≡◌, [], ◌∷◌, ◌++◌, IfOk, OnOk, OnErr};
+ghost use Rattle.std.specs.Prelude.{◌≡◌, IfOk};
 
-use crate::value::copy_value;
-use crsm_base::{Ballot, Command, NoMemory};
+use crate::shared::SharedCommand;
+use crsm_base::{Ballot, NoMemory};
 use std::alloc::Global;
 use std::marker::Model;
+use std::rc::Rc;
 
 /// A value that was accepted at a slot, with the ballot.
 #[derive(Debug, Drop)]
 pub struct MpAccepted {
     pub slot: u64,
     pub ballot: Ballot,
-    pub value: Option<Command>,
-}
-
-impl MpAccepted {
-    /// Returns a copy. `NoMemory` if memory runs out.
-    pub fn copy(&self, alloc: Global) -> Result<MpAccepted, NoMemory>
-        ensures { IfOk result (λ copy. copy ≡ self.now) }
-    {
-        Ok(MpAccepted {
-            slot: self.slot,
-            ballot: self.ballot,
-            value: copy_value(alloc, &self.value)?,
-        })
-    }
+    pub value: Option<SharedCommand>,
 }
 
 /// A list of the values that a replica has accepted from a slot on, by slot.
 #[derive(Debug, Drop)]
 pub struct MpAccepts {
-    items: Vec<MpAccepted>,
+    items: Rc<Vec<MpAccepted>>,
 }
 
 impl Model for MpAccepts {
@@ -40,26 +28,18 @@ impl Model for MpAccepts {
 
     ghost Value = { List MpAccepted };
 
-    ghost view = { λ l. l.items.items };
+    ghost view = { λ l. l.items.value.items };
 }
 
 impl MpAccepts {
-    /// Returns the empty list.
-    pub fn new(alloc: Global) -> MpAccepts
-        ensures { result ≡ [] }
+    /// Returns the list of these values. `NoMemory` if memory runs out.
+    pub fn new(alloc: Global, items: Vec<MpAccepted>) -> Result<MpAccepts, NoMemory>
+        ensures { IfOk result (λ list. list ≡ items.items) }
     {
-        MpAccepts {
-            items: Vec::new(alloc),
+        match Rc::new(alloc, items) {
+            Ok(items) => Ok(MpAccepts { items }),
+            Err(_) => Err(NoMemory),
         }
-    }
-
-    /// Appends a value. `NoMemory` if memory runs out; the list is then unchanged.
-    pub fn push(&mut self, item: MpAccepted) -> Result<(), NoMemory>
-        ensures ok { OnOk result (self.new ≡ self.old ++ item ∷ []) }
-        ensures err { OnErr result (self.new ≡ self.old) }
-    {
-        self.items.push(item)?;
-        Ok(())
     }
 
     /// Returns the values by slot.
@@ -69,14 +49,11 @@ impl MpAccepts {
         self.items.as_slice()
     }
 
-    /// Returns a copy. `NoMemory` if memory runs out.
-    pub fn copy(&self, alloc: Global) -> Result<MpAccepts, NoMemory>
+    /// Returns the same list for one more owner. `NoMemory` if there are too many.
+    pub fn share(&self) -> Result<MpAccepts, NoMemory>
         ensures { IfOk result (λ copy. copy ≡ self.now) }
     {
-        let mut copy = MpAccepts::new(alloc);
-        for item in self.items.as_slice() {
-            copy.push(item.copy(alloc)?)?;
-        }
-        Ok(copy)
+        let items = self.items.clone()?;
+        Ok(MpAccepts { items })
     }
 }

@@ -1,35 +1,24 @@
 //! The values that a replica knows to be chosen.
 
-ghost use Rattle.std.specs.Prelude.{◌≡◌, [], ◌∷◌, ◌++◌, IfOk, OnOk, OnErr};
+ghost use Rattle.std.specs.Prelude.{◌≡◌, IfOk};
 
-use crate::value::copy_value;
-use crsm_base::{Command, NoMemory};
+use crate::shared::SharedCommand;
+use crsm_base::NoMemory;
 use std::alloc::Global;
 use std::marker::Model;
+use std::rc::Rc;
 
 /// The value of a slot that is known to be chosen.
 #[derive(Debug, Drop)]
 pub struct MpChosen {
     pub slot: u64,
-    pub value: Option<Command>,
-}
-
-impl MpChosen {
-    /// Returns a copy. `NoMemory` if memory runs out.
-    pub fn copy(&self, alloc: Global) -> Result<MpChosen, NoMemory>
-        ensures { IfOk result (λ copy. copy ≡ self.now) }
-    {
-        Ok(MpChosen {
-            slot: self.slot,
-            value: copy_value(alloc, &self.value)?,
-        })
-    }
+    pub value: Option<SharedCommand>,
 }
 
 /// A list of the values that a replica knows to be chosen from a slot on, by slot.
 #[derive(Debug, Drop)]
 pub struct MpChoices {
-    items: Vec<MpChosen>,
+    items: Rc<Vec<MpChosen>>,
 }
 
 impl Model for MpChoices {
@@ -38,26 +27,18 @@ impl Model for MpChoices {
 
     ghost Value = { List MpChosen };
 
-    ghost view = { λ l. l.items.items };
+    ghost view = { λ l. l.items.value.items };
 }
 
 impl MpChoices {
-    /// Returns the empty list.
-    pub fn new(alloc: Global) -> MpChoices
-        ensures { result ≡ [] }
+    /// Returns the list of these values. `NoMemory` if memory runs out.
+    pub fn new(alloc: Global, items: Vec<MpChosen>) -> Result<MpChoices, NoMemory>
+        ensures { IfOk result (λ list. list ≡ items.items) }
     {
-        MpChoices {
-            items: Vec::new(alloc),
+        match Rc::new(alloc, items) {
+            Ok(items) => Ok(MpChoices { items }),
+            Err(_) => Err(NoMemory),
         }
-    }
-
-    /// Appends a value. `NoMemory` if memory runs out; the list is then unchanged.
-    pub fn push(&mut self, item: MpChosen) -> Result<(), NoMemory>
-        ensures ok { OnOk result (self.new ≡ self.old ++ item ∷ []) }
-        ensures err { OnErr result (self.new ≡ self.old) }
-    {
-        self.items.push(item)?;
-        Ok(())
     }
 
     /// Returns the values by slot.
@@ -67,14 +48,11 @@ impl MpChoices {
         self.items.as_slice()
     }
 
-    /// Returns a copy. `NoMemory` if memory runs out.
-    pub fn copy(&self, alloc: Global) -> Result<MpChoices, NoMemory>
+    /// Returns the same list for one more owner. `NoMemory` if there are too many.
+    pub fn share(&self) -> Result<MpChoices, NoMemory>
         ensures { IfOk result (λ copy. copy ≡ self.now) }
     {
-        let mut copy = MpChoices::new(alloc);
-        for item in self.items.as_slice() {
-            copy.push(item.copy(alloc)?)?;
-        }
-        Ok(copy)
+        let items = self.items.clone()?;
+        Ok(MpChoices { items })
     }
 }

@@ -1,13 +1,13 @@
 //! The inputs of a replica.
 
 use crate::message::MpMessage;
-use crsm_base::Command;
+use crate::shared::SharedCommand;
 
 /// The input of one step.
 #[derive(Debug, Drop)]
 pub enum MpInput {
     /// A client's command.
-    Request { command: Command },
+    Request { command: SharedCommand },
     /// A message from another replica.
     Message { message: MpMessage },
     /// A tick of the clock.

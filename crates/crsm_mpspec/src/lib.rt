@@ -15,6 +15,7 @@ mod rec;
 mod recs;
 mod send;
 mod sends;
+mod shared;
 mod value;
 
 pub use accepts::{MpAccepted, MpAccepts};
@@ -29,4 +30,5 @@ pub use rec::MpRec;
 pub use recs::MpRecs;
 pub use send::MpSend;
 pub use sends::MpSends;
-pub use value::copy_value;
+pub use shared::SharedCommand;
+pub use value::share_value;

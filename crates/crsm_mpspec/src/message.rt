@@ -4,9 +4,9 @@ ghost use Rattle.std.specs.Prelude.{◌≡◌, IfOk};
 
 use crate::accepts::MpAccepts;
 use crate::choices::MpChoices;
-use crate::value::copy_value;
-use crsm_base::{Ballot, Command, NoMemory};
-use std::alloc::Global;
+use crate::shared::SharedCommand;
+use crate::value::share_value;
+use crsm_base::{Ballot, NoMemory};
 
 /// A message from one replica to another.
 #[derive(Debug, Drop)]
@@ -30,7 +30,7 @@ pub enum MpMessage {
     Acc {
         ballot: Ballot,
         slot: u64,
-        value: Option<Command>,
+        value: Option<SharedCommand>,
     },
     /// Votes: the sender has accepted at the slot in this ballot.
     Accd {
@@ -40,7 +40,7 @@ pub enum MpMessage {
     /// Reports the chosen value of a slot.
     Learn {
         slot: u64,
-        value: Option<Command>,
+        value: Option<SharedCommand>,
     },
     /// Asks for the executed values from a slot on.
     Ask {
@@ -50,7 +50,7 @@ pub enum MpMessage {
 
 impl MpMessage {
     /// Returns a copy. `NoMemory` if memory runs out.
-    pub fn copy(&self, alloc: Global) -> Result<MpMessage, NoMemory>
+    pub fn copy(&self) -> Result<MpMessage, NoMemory>
         ensures { IfOk result (λ copy. copy ≡ self.now) }
     {
         match self {
@@ -64,8 +64,8 @@ impl MpMessage {
                 chosen,
             } => Ok(MpMessage::Prom {
                 ballot: *ballot,
-                accepted: accepted.copy(alloc)?,
-                chosen: chosen.copy(alloc)?,
+                accepted: accepted.share()?,
+                chosen: chosen.share()?,
             }),
             MpMessage::No { promised } => Ok(MpMessage::No {
                 promised: *promised,
@@ -77,7 +77,7 @@ impl MpMessage {
             } => Ok(MpMessage::Acc {
                 ballot: *ballot,
                 slot: *slot,
-                value: copy_value(alloc, value)?,
+                value: share_value(value)?,
             }),
             MpMessage::Accd { ballot, slot } => Ok(MpMessage::Accd {
                 ballot: *ballot,
@@ -85,7 +85,7 @@ impl MpMessage {
             }),
             MpMessage::Learn { slot, value } => Ok(MpMessage::Learn {
                 slot: *slot,
-                value: copy_value(alloc, value)?,
+                value: share_value(value)?,
             }),
             MpMessage::Ask { start } => Ok(MpMessage::Ask { start: *start }),
         }

@@ -1,6 +1,7 @@
 //! The records of a log.
 
-use crsm_base::{Ballot, Command};
+use crate::shared::SharedCommand;
+use crsm_base::Ballot;
 
 /// A record of a replica's log.
 #[derive(Debug, Drop)]
@@ -15,11 +16,11 @@ pub enum MpRec {
     Accept {
         slot: u64,
         ballot: Ballot,
-        value: Option<Command>,
+        value: Option<SharedCommand>,
     },
     /// The value of a slot is known to be chosen.
     Choose {
         slot: u64,
-        value: Option<Command>,
+        value: Option<SharedCommand>,
     },
 }

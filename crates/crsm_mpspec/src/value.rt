@@ -2,15 +2,15 @@
 
 ghost use Rattle.std.specs.Prelude.{◌≡◌, IfOk};
 
-use crsm_base::{Command, NoMemory};
-use std::alloc::Global;
+use crate::shared::SharedCommand;
+use crsm_base::NoMemory;
 
-/// Returns a copy of the value of a slot. `NoMemory` if memory runs out.
-pub fn copy_value(alloc: Global, value: &Option<Command>) -> Result<Option<Command>, NoMemory>
+/// Returns the value of a slot for one more owner. `NoMemory` if a command has too many.
+pub fn share_value(value: &Option<SharedCommand>) -> Result<Option<SharedCommand>, NoMemory>
     ensures { IfOk result (λ copy. copy ≡ value.now) }
 {
     match value {
         None => Ok(None),
-        Some(command) => Ok(Some(command.copy(alloc)?)),
+        Some(command) => Ok(Some(command.share()?)),
     }
 }

@@ -16,6 +16,7 @@ use crate::ending::MpEnding;
 use crate::outgoing::leave;
 use crate::world::MpWorld;
 use crsm_base::{Command, NoMemory};
+use crsm_mpledger::share_command;
 use crsm_mpspec::{MpInput, MpLines};
 use crsm_schedule::Single;
 
@@ -79,7 +80,8 @@ impl MpWorld {
         ensures { OnOk result (WhereHolds self.old (λ v.
             WorldLeadsOn (moments.step_at (ending_of ending) v k (Input.Request command.now) 0) self.new lines.old lines.new)) }
     {
-        let command = command.copy(self.alloc)?;
+        let own = command.copy(self.alloc)?;
+        let command = share_command(self.alloc, own)?;
         self.arrive(k, ending, &MpInput::Request { command }, lines)?;
         Ok(())
     }

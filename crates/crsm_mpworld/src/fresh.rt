@@ -109,7 +109,8 @@ impl MpNetwork {
     {
         self.see(ups)?;
         let due = self.still_due()?;
-        self.near = Vec::from_slice(self.alloc, due.as_slice())?;
+        self.near.clear();
+        self.near.extend_from_slice(due.as_slice())?;
         Ok(due)
     }
 }

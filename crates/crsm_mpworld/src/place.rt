@@ -5,6 +5,7 @@ ghost use Rattle.crsm_disk.specs.Memory.{good_left};
 ghost use Rattle.crsm_log.specs.Words.{disk_of, has_failed};
 ghost use Rattle.crsm_mpworld.specs.Disks.{IsSomeLeft, IsSomeUp};
 
+use crsm_base::Bytes;
 use crsm_disk::MemDisk;
 use crsm_log::Log;
 use crsm_mpcore::MpCore;
@@ -18,6 +19,8 @@ pub(crate) struct Running {
     pub(crate) core: MpCore,
     pub(crate) log: Log<MemDisk>,
     pub(crate) is_spent: bool,
+    /// The last log body: only its memory is used.
+    pub(crate) body: Bytes,
     ghost unfailed: { is_spent ≡ false → has_failed log ≡ false },
     ghost well: { is_spent ≡ false → good_left (disk_of log) ≡ None },
     ghost stands: { is_spent ≡ false → ∥ IsSomeUp core log ∥₁ },

@@ -46,6 +46,16 @@ pub(crate) fn body_of(alloc: Global, records: &[MpRec]) -> Result<Bytes, NoMemor
     Ok(body)
 }
 
+/// Makes the bytes the log body of records, in their own memory.
+fn write_body(records: &[MpRec], body: &mut Bytes) -> Result<(), NoMemory>
+    requires { AllByRecursion FitsRec records.now }
+    ensures { OnOk result (body.new ≡ body_bytes records.now) }
+{
+    body.clear();
+    put_body(records, body)?;
+    Ok(())
+}
+
 /// Puts a body into a log on a disk whose calls do not fail.
 pub(crate) fn keep(alloc: Global, log: &mut Log<MemDisk>, body: &[u8]) -> Result<(), NoMemory>
     requires some { 0 < length body.now }
@@ -65,8 +75,13 @@ pub(crate) fn keep(alloc: Global, log: &mut Log<MemDisk>, body: &[u8]) -> Result
     }
 }
 
-/// Puts the records of a step into the log, if there are any, and returns their length in bytes.
-fn keep_records(alloc: Global, log: &mut Log<MemDisk>, records: &[MpRec]) -> Result<u64, NoMemory>
+/// Puts the records of a step into the log, if there are any, and returns their length in bytes. `body` lends its memory.
+fn keep_records(
+    alloc: Global,
+    log: &mut Log<MemDisk>,
+    records: &[MpRec],
+    body: &mut Bytes,
+) -> Result<u64, NoMemory>
     requires fit { AllByRecursion FitsRec records.now }
     requires unfailed { has_failed log.old ≡ false }
     requires well { good_left (disk_of log.old) ≡ None }
@@ -80,7 +95,7 @@ fn keep_records(alloc: Global, log: &mut Log<MemDisk>, records: &[MpRec]) -> Res
     if records.is_empty() {
         return Ok(0);
     }
-    let body = body_of(alloc, records)?;
+    write_body(records, body)?;
     keep(alloc, log, body.as_slice())?;
     Ok(body.as_slice().len() as u64)
 }
@@ -115,7 +130,12 @@ impl Running {
         // A caller that sees an error below must not continue from half a step.
         self.is_spent = true;
         let batch = self.core.step(input, from)?;
-        let size = keep_records(self.alloc, &mut self.log, batch.records.as_slice())?;
+        let size = keep_records(
+            self.alloc,
+            &mut self.log,
+            batch.records.as_slice(),
+            &mut self.body,
+        )?;
         self.is_spent = false;
         Ok(MpStep { batch, size })
     }

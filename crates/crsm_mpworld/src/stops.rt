@@ -168,6 +168,7 @@ fn boot_on(alloc: Global, me: u32, n: u32, left: MpStopped) -> Result<(Running, 
         core: MpCore::new(alloc, me, n, ledger),
         log,
         is_spent: false,
+        body,
     };
     Ok((running, boot))
 }

@@ -4,6 +4,7 @@ use Rattle.crsm_fact_log.proofs.Lists.{get_some}
 use Rattle.crsm_mpspec.specs.Draft.{reply}
 use Rattle.crsm_mpspec.specs.Log.{executed}
 use Rattle.crsm_mpspec.specs.Step.{reply_line}
+use Rattle.crsm_mpspec.specs.Types.{Command}
 use Rattle.crsm_mpreplica.specs.State.{MpReplicaStands, waiting_of, with_waiting}
 use Rattle.crsm_mpcore.proofs.ReplyLemmas.{first-replied, nobody, none-replied, one_less}
 use Rattle.crsm_mpcore.proofs.replies.replies.Goals as goal
@@ -29,9 +30,10 @@ loop-replied-preserved c x s =
     let first = c.in-Some.ensures.first y way.stands in
     let rest = c.in-Some.ensures.rest y way.stands in
     let v = get_some done slot (c.in-Some.ensures.executed y way.stands) in
+    let line = subst (λ (d : Command). c.in_ok-line.line ≡ reply_line y.replica.me done (waiting_of (slot, d)) v.0) c.get.ensures (c.in_ok-line.ensures (with_waiting ws y) v.0 rest v.1) in
     record {
       draft = reply (reply_line y.replica.me done w v.0) (with_waiting ws y);
-      stands = subst (λ line. MpReplicaStands c.reply.new.self (reply line (with_waiting ws y))) (c.in_ok-line.ensures (with_waiting ws y) v.0 rest v.1) (c.in_ok-reply.ensures (with_waiting ws y) rest);
+      stands = subst (λ line. MpReplicaStands c.reply.new.self (reply line (with_waiting ws y))) line (c.in_ok-reply.ensures (with_waiting ws y) rest);
       same = first-replied y w ws v.0 first v.1 ∙ way.same;
       left = one_less y.replica.waiting ws w c.loop-replied._replied (length x.replica.waiting) first way.left;
     }

@@ -13,16 +13,16 @@ returns-then-is_empty-clause-size c =
 pub keep-requires-clause-some : goal.keep-requires-clause-some
 keep-requires-clause-some c =
     let some : 0 < length c.args.records.now = grind (arith, nat_tests, c.if-is_empty.ensures) in
-    let e = ap length (c.as_slice.ensures ∙ c.in_ok-body.ensures) in
+    let e = ap length (c.as_slice.ensures ∙ c.in_ok-write_body.ensures) in
     let long = body_some c.args.records.now some in omega arith
 
 pub returns-clause-size : goal.returns-clause-size
 unfolding body_size
-returns-clause-size c = ap length (c.as_slice-2.ensures ∙ c.in_ok-body.ensures)
+returns-clause-size c = ap length (c.as_slice-2.ensures ∙ c.in_ok-write_body.ensures)
 
 pub returns-clause-kept : goal.returns-clause-kept
 returns-clause-kept c log disk sound =
     let recs = c.args.records.now in
     let some : 0 < length recs = grind (arith, nat_tests, c.if-is_empty.ensures) in
-    let spelt : SpeltBody recs c.as_slice.result.now = subst (SpeltBody recs) (sym (c.as_slice.ensures ∙ c.in_ok-body.ensures)) (spelt_body recs c.requires.fit some) in
+    let spelt : SpeltBody recs c.as_slice.result.now = subst (SpeltBody recs) (sym (c.as_slice.ensures ∙ c.in_ok-write_body.ensures)) (spelt_body recs c.requires.fit some) in
     with_body _ _ log recs c.as_slice.result.now disk spelt sound c.in_ok-keep.ensures.kept

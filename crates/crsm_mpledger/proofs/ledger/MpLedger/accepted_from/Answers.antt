@@ -12,7 +12,7 @@ use Rattle.crsm_mpledger.proofs.ledger.MpLedger.accepted_from.Goals as goal
 
 pub loop-slot-init : goal.loop-slot-init
 loop-slot-init c =
-    let empty : c.new-accepts.result ≡ [] = search rules in
+    let empty : c.new-accepts.result.items ≡ [] = search rules in
     (omega arith, empty ∙ ap (λ es. map accepted_of es) (sym (none_before 0 c.args.start c.args.start c.args.self.now.accepted.prefix.items (omega arith))))
 
 pub loop-slot-preserved : goal.loop-slot-preserved
@@ -23,8 +23,8 @@ loop-slot-preserved c =
     let below : slot < length xs = search rules in
     let is : slice_get xs slot ≡ Some value
     = slice_get_read xs (length xs) slot value refl below (c.index-first-slot.is ∙ ap (λ ys. get_or ys slot value) c.prefix-first.ensures) in
-    let more : c.push.new.self ≡ c.loop-slot.accepts ++ accepted_of (slot, value) ∷ [] = search rules in
-    (omega (arith, c.loop-slot.invariant.0), reported-next accepted_of c.args.start slot xs value c.loop-slot.accepts c.push.new.self c.loop-slot.invariant.0 is c.loop-slot.invariant.1 more)
+    let more : c.push.new.self.items ≡ c.loop-slot.accepts.items ++ accepted_of (slot, value) ∷ [] = search rules in
+    (omega (arith, c.loop-slot.invariant.0), reported-next accepted_of c.args.start slot xs value c.loop-slot.accepts.items c.push.new.self.items c.loop-slot.invariant.0 is c.loop-slot.invariant.1 more)
 
 pub loop-slot-2-init : goal.loop-slot-2-init
 loop-slot-2-init c =
@@ -38,5 +38,5 @@ returns c log s =
     let whole : map deref_pair c.loop-slot-2.yielded ≡ c.range-slot-items.result = search (rules, iter_end) in
     let es = c.args.self.now.accepted.beyond.entries in
     let part = whole ∙ c.range-slot-items.ensures.between tt ∙ ap (λ zs. filter (λ e. is_le (nat_cmp c.args.start e.0) && true) zs) c.beyond.ensures ∙ entries-from_slot c.args.start es in
-    reported-whole accepted_of c.args.start c.args.self.now.accepted.prefix.items es (by_slot (accepts log)) c.loop-slot-2.accepts s.accepted.is
+    c.in_ok-list.ensures ∙ reported-whole accepted_of c.args.start c.args.self.now.accepted.prefix.items es (by_slot (accepts log)) c.loop-slot-2.accepts.items s.accepted.is
     (c.loop-slot-2.invariant ∙ ap (λ zs. map accepted_of (from_slot c.args.start (numbered 0 c.args.self.now.accepted.prefix.items)) ++ map accepted_of zs) part)

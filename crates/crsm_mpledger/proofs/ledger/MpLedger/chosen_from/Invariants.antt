@@ -7,7 +7,7 @@ use Rattle.crsm_mpledger.proofs.SlotLemmas.{chosen_of}
 use Rattle.crsm_mpledger.proofs.ledger.MpLedger.chosen_from.Given as goal
 
 abbrev pub invariant-loop-slot : goal.invariant-loop-slot
-invariant-loop-slot l = (l.start ≤ l.slot) × (l.choices ≡ map chosen_of (from_slot l.start (numbered 0 (take l.slot l.self.chosen.prefix.items))))
+invariant-loop-slot l = (l.start ≤ l.slot) × (l.choices.items ≡ map chosen_of (from_slot l.start (numbered 0 (take l.slot l.self.chosen.prefix.items))))
 
 abbrev pub invariant-loop-slot-2 : goal.invariant-loop-slot-2
-invariant-loop-slot-2 l = l.choices ≡ map chosen_of (from_slot l.start (numbered 0 l.self.chosen.prefix.items)) ++ map chosen_of (map deref_pair l.yielded)
+invariant-loop-slot-2 l = l.choices.items ≡ map chosen_of (from_slot l.start (numbered 0 l.self.chosen.prefix.items)) ++ map chosen_of (map deref_pair l.yielded)

@@ -17,7 +17,7 @@ pub returns : goal.returns
 unfolding when◌then◌otherwise◌
 returns c fits x s =
     let awaits = sym (c.awaits_report.ensures x s) ∙ c.if-not-awaits_report.false in
-    let same = report-same c.args.from (record { accepted = c.in_ok-copy.field-0; chosen = c.in_ok-copy-2.field-0 }) c.args.accepted.now c.args.chosen.now c.in_ok-copy.ensures c.in_ok-copy-2.ensures in (
+    let same = report-same c.args.from (record { accepted = c.in_ok-share.field-0; chosen = c.in_ok-share-2.field-0 }) c.args.accepted.now c.args.chosen.now c.in_ok-share.ensures c.in_ok-share-2.ensures in (
       sym awaits,
       rw (awaits)
           (subst (λ r. MpReplicaStands c.add_report.new.self (noting (note_report r x.replica.note) x)) same

@@ -1,4 +1,4 @@
-use Rattle.std.proofs.Common.{◌∙◌, ap}
+use Rattle.std.proofs.Common.{◌∙◌, ◌++◌, ap, List, ℕ}
 use Rattle.std.specs.Prelude.{filter}
 use Rattle.crsm_mpworld.specs.Packets.{is_fresh_for, is_up_among, numbers_of}
 use Rattle.crsm_mpworld.proofs.Marked.{nears}
@@ -7,7 +7,8 @@ use Rattle.crsm_mpworld.proofs.network.MpNetwork.due.Goals as goal
 pub returns-clause-stands : goal.returns-clause-stands
 returns-clause-stands c packets bytes h =
     let seen = c.in_ok-see.ensures.stands packets bytes h in
-    nears c.see.new.self packets bytes c.in_ok-self.field-0 _ seen (c.in_ok-self.ensures.items ∙ c.as_slice.ensures.value ∙ c.in_ok-due.ensures packets bytes seen)
+    let kept = c.in_ok-extend_from_slice.ensures.items ∙ ap (λ (numbers : List ℕ). numbers ++ c.as_slice.result.now) c.clear.ensures.items ∙ c.as_slice.ensures.value in
+    nears c.see.new.self packets bytes c.extend_from_slice.new.self _ seen (kept ∙ c.in_ok-due.ensures packets bytes seen)
 
 pub returns-clause-due : goal.returns-clause-due
 returns-clause-due c packets bytes h =
