@@ -57,8 +57,8 @@ pub(crate) fn begin_on(alloc: Global, peers: &[u64], ledger: Ledger) -> Result<B
     ensures room { IfOk result (λ b. length b.buffer.items ≡ 8192) }
     ensures refused { IfErr result (λ why. why ≡ BootError.NoMemory) }
 {
-    let (peers, buffer) = room_for(alloc, peers)?;
     let mut core = core_on(alloc, ledger)?;
+    let (peers, buffer) = room_for(alloc, peers)?;
     let batch = core.begin()?;
     let mut body = Bytes::new(alloc);
     write_records(batch.records.as_slice(), &mut body)?;
