@@ -156,7 +156,7 @@ ends_last {P = P} {C = C} below now_below had came before after a n (Datagram fr
 )
 
 -- the port below is asked, and nothing is taken in
-pub asked_stays : {P C : Type 0} (m n : Meaning) (p a : FlowPort P C) → (let asked : FlowPort P C = record p { port = a.port; room = a.room; has_failed = a.has_failed } in a ≡ asked) → length a.room.items ≡ length p.room.items
+pub asked_stays : {P C : Type 0} (m n : Meaning) (p a : FlowPort P C) → (let asked : FlowPort P C = record p { port = a.port; clock = a.clock; room = a.room; has_failed = a.has_failed } in a ≡ asked) → length a.room.items ≡ length p.room.items
     → StaysAbove (state_of m p) (state_of n a)
 asked_stays {P = P} {C = C} m n p a same size =
     (kept_by p.inbound a.inbound (ap (λ (x : FlowPort P C). x.inbound) same), (size, ap (λ (x : FlowPort P C). x.hearing) same, ap (λ (x : FlowPort P C). x.lost) same))
@@ -182,7 +182,7 @@ many_end {P = P} {C = C} M had now came start before other after a n got same si
 
 module _ {P C : Type 0} (M : P → Meaning) (p a q : FlowPort P C) where
   -- the port below hands up a datagram, and it is taken in
-  pub came_in : (from len : ℕ) → (let asked : FlowPort P C = record p { port = a.port; room = a.room; has_failed = a.has_failed } in a ≡ asked)
+  pub came_in : (from len : ℕ) → (let asked : FlowPort P C = record p { port = a.port; clock = a.clock; room = a.room; has_failed = a.has_failed } in a ≡ asked)
       → (let taken : FlowPort P C = record a { hearing = q.hearing; quiet = q.quiet; inbound = q.inbound; outbound = q.outbound; lost = q.lost } in q ≡ taken)
       → length a.room.items ≡ length p.room.items → Receives (M p.port) (M a.port) p.room.items a.room.items (Ok (Datagram from len))
       → TakesIn from (take len a.room.items) a.now a.hearing.peers.items a.inbound q.inbound a.lost q.lost → AreKnownBy a.hearing.me from (take len a.room.items) a.hearing.peers.items q.hearing.peers.items → q.hearing.me ≡ a.hearing.me
@@ -207,7 +207,7 @@ pub asks_others : {P C : Type 0} (m : Meaning) (p : FlowPort P C) (c : Clients) 
 asks_others m p c waiting operate = (refl, (asked_kept p.inbound c waiting operate, (refl, refl, refl)))
 
 module _ {P C : Type 0} (M : P → Meaning) (p a : FlowPort P C) (c : Clients) (waiting : c.requests.waiting.items ≡ p.inbound.clients.requests.waiting.items) (operate : c.operate ≡ p.inbound.clients.operate)
-    (same : (let asked : FlowPort P C = record (asking p c) { port = a.port; room = a.room; has_failed = a.has_failed } in a ≡ asked)) (size : length a.room.items ≡ length p.room.items) where
+    (same : (let asked : FlowPort P C = record (asking p c) { port = a.port; clock = a.clock; room = a.room; has_failed = a.has_failed } in a ≡ asked)) (size : length a.room.items ≡ length p.room.items) where
   -- and then the port below is
   pub asks_stands : Stands (state_of (M p.port) p) (state_of (M p.port) a)
   asks_stands =

@@ -356,7 +356,7 @@ impl<P: Port, C: Clock> FlowPort<P, C> {
         ensures answers { IsAnswer self.old.has_failed (P.meaning self.old.port) (P.meaning self.new.port) self.old.room.items self.new.room.items result }
         ensures ready { OnOk result (self.new.has_failed ≡ self.old.has_failed) }
         ensures failed { OnErr result (self.new.has_failed ≡ false) }
-        ensures same { self.new ≡ record self.old { port = self.new.port; room = self.new.room; has_failed = self.new.has_failed } }
+        ensures same { self.new ≡ record self.old { port = self.new.port; clock = self.new.clock; room = self.new.room; has_failed = self.new.has_failed } }
         ensures room { length self.new.room.items ≡ length self.old.room.items }
         ensures counts { unknown self.new.faults self.new.losses self.new.empties ≡ unknown self.old.faults self.old.losses self.old.empties }
     {
@@ -457,7 +457,7 @@ impl<P: Port, C: Clock> Port for FlowPort<P, C> {
         ensures rests { Rests (given_by (P.gives self.old.port) self.old.inbound) (given_by (P.gives self.new.port) self.new.inbound) (sent_with (P.may_send self.old.port) self.old.outbound.acks.acks.items) (sent_with (P.may_send self.new.port) self.new.outbound.acks.acks.items) }
         ensures goes { (said : List Packet) × AllSay said × SendsAll (map packet_of self.old.outbound.acks.acks.items ++ said) (P.meaning self.old.port) (P.meaning self.new.port) }
         ensures none_held { self.new.outbound.acks.acks.items ≡ [] }
-        ensures stays { self.new ≡ record self.old { port = self.new.port; outbound = self.new.outbound; hearing = record self.old.hearing { said_at = self.new.hearing.said_at } } }
+        ensures stays { self.new ≡ record self.old { port = self.new.port; outbound = self.new.outbound; quiet = self.new.quiet; hearing = record self.old.hearing { said_at = self.new.hearing.said_at } } }
     {
         self.outbound.acks.let_go(&mut self.port);
         self.hearing.say(self.now, &mut self.port);
