@@ -3,7 +3,8 @@
 //!
 //! A row has the steps of a port: `put:FROM:HEX` is a datagram that waits, `fail:K` a call of the port below that
 //! fails, and then, in order, `reserve:T` makes room at the clock's reading T, `send:TO:HEX` sends, `recv` receives and
-//! `flush` ends a group. The port is that of replica 0 of three, at the addresses 7000 to 7002.
+//! `flush` ends a group. The port is that of replica 0 of three, at the addresses 7000 to 7002. A receive of an idle
+//! port with flow control reads the clock, too: it takes the next `reserve`'s reading.
 
 use crate::fault::Fault;
 use crate::packets::{failing_port, packet_of, push_packet, push_sent, put_packet};
