@@ -1,3 +1,3 @@
 mod Answered
 pub mod Moments
-mod Told
+mod Painted

@@ -1,14 +1,14 @@
 -- The invariant of a disk in memory.
-use Rattle.std.specs.Prelude.{◌≡◌, ◌+◌, ◌≤◌, [], length, vec_len, vec_capacity}
+use Rattle.std.specs.Prelude.{◌≡◌, ◌+◌, ◌≤◌, vec_len, vec_capacity}
 use Rattle.crsm_disk.specs.declared.memory.MemDisk.TheInside.{Inside}
 use Rattle.crsm_port_image.specs.Calls.{contents}
 use Rattle.crsm_disk.specs.Memory.{Memory}
-use Rattle.crsm_disk.specs.Records.{told, total}
+use Rattle.crsm_disk.specs.Ranges.{unsynced}
 
 abbrev pub memory_of : Inside → Memory
 memory_of d = record {
-  first = d.first.items;
-  calls = told d.records.items d.written.items [];
+  first = d.past.first;
+  calls = d.past.calls;
   failing = d.failures;
   stop = d.stop;
   fill = d.fill;
@@ -18,10 +18,9 @@ memory_of d = record {
   renewed = d.renewed;
 }
 
--- the bytes are those that the recorded calls make, and memory for the reserve is allocated
+-- the bytes and the ranges are those that the calls make, and memory for the reserve is allocated
 pub record IsKept (d : Inside) : Type 0 where
-  pub bytes : d.bytes.items ≡ contents d.first.items (told d.records.items d.written.items [])
-  pub sizes : length d.written.items ≡ total d.records.items
-  pub place_records : vec_len d.records + d.room_calls ≤ vec_capacity d.records
-  pub place_written : vec_len d.written + d.room_bytes ≤ vec_capacity d.written
+  pub bytes : d.bytes.items ≡ contents d.past.first d.past.calls
+  pub ranges : d.unsynced.items ≡ unsynced d.past.calls
+  pub place_ranges : vec_len d.unsynced + d.room_calls ≤ vec_capacity d.unsynced
   pub place_bytes : vec_len d.bytes + d.room_bytes ≤ vec_capacity d.bytes

@@ -2,5 +2,6 @@ pub mod Meaning
 pub mod Contract
 pub mod Unknown
 pub mod Memory
-pub mod Records
+pub mod Past
+pub mod Ranges
 pub mod Inside

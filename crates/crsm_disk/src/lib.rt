@@ -5,7 +5,7 @@ mod content;
 mod disk;
 mod file;
 mod memory;
-mod record;
+mod past;
 
 pub use disk::Disk;
 pub use file::{FileDisk, OpenError};

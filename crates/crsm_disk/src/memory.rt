@@ -9,21 +9,21 @@ ghost use Rattle.crsm_port_image.specs.Image.{IsImage};
 ghost use Rattle.crsm_disk.specs.Memory.{good_left, holding, left_by_crash, meaning_of, room_for_write, with_call};
 
 use crate::Disk;
-use crate::content::{copy, overwrite, paint_unsynced, redo};
-use crate::record::{Record, coordinator_write};
+use crate::content::{Range, copy, overwrite, paint};
+use crate::past::{Note, Past};
 use crsm_base::{Failed, NoMemory};
 use crsm_port_faults::{Failures, raise};
 use std::alloc::Global;
 use std::marker::Model;
 
-/// A disk in memory. It records its calls, fails at listed ones, and can be stopped.
+/// A disk in memory. It specifies its calls, fails at listed ones, and can be stopped.
 #[derive(Drop)]
 pub struct MemDisk {
     alloc: Global,
-    first: Vec<u8>,
     bytes: Vec<u8>,
-    records: Vec<Record>,
-    written: Vec<u8>,
+    // The ranges written since the last sync.
+    unsynced: Vec<Range>,
+    past: Past,
     failures: Failures,
     stop: Option<u64>,
     fill: u8,
@@ -56,12 +56,13 @@ impl MemDisk {
     ) -> Result<MemDisk, NoMemory>
         ensures { IfOk result (λ d. d ≡ holding [] fails.now stop fill) }
     {
+        let bytes = Vec::new(alloc);
+        let past = Past::before(&bytes);
         Ok(MemDisk {
             alloc,
-            first: Vec::new(alloc),
-            bytes: Vec::new(alloc),
-            records: Vec::new(alloc),
-            written: Vec::new(alloc),
+            bytes,
+            unsynced: Vec::new(alloc),
+            past,
             failures: Failures::new(alloc, fails)?,
             stop,
             fill,
@@ -94,13 +95,13 @@ impl MemDisk {
     {
         let alloc = self.alloc;
         let mut bytes = Vec::from_slice(alloc, &self.bytes)?;
-        paint_unsynced(&mut bytes, &self.records, self.fill);
+        paint(&mut bytes, &self.unsynced, self.fill);
+        let past = Past::before(&bytes);
         Ok(MemDisk {
             alloc,
-            first: Vec::from_slice(alloc, &bytes)?,
             bytes,
-            records: Vec::new(alloc),
-            written: Vec::new(alloc),
+            unsynced: Vec::new(alloc),
+            past,
             failures: Failures::new(alloc, &[])?,
             stop: None,
             fill: self.fill,
@@ -111,18 +112,15 @@ impl MemDisk {
         })
     }
 
-    /// Returns the same disk as `image`, in this disk's own memory and in time proportional to the bytes written.
+    /// Returns the same disk as `image`, in this disk's own memory and in time proportional to the unsynced bytes.
     pub fn into_image(self) -> Result<MemDisk, NoMemory>
         ensures one { IfOk result (λ d. IsImage self.first self.calls d.first) }
         ensures exact { IfOk result (λ d. d ≡ left_by_crash self) }
     {
         let mut disk = self;
-        // Repeated on the initial bytes, the recorded calls make the current ones.
-        redo(&mut disk.first, &disk.records, &disk.written)?;
-        paint_unsynced(&mut disk.first, &disk.records, disk.fill);
-        paint_unsynced(&mut disk.bytes, &disk.records, disk.fill);
-        disk.records.clear();
-        disk.written.clear();
+        paint(&mut disk.bytes, &disk.unsynced, disk.fill);
+        disk.unsynced.clear();
+        disk.past = Past::before(&disk.bytes);
         disk.failures = Failures::new(disk.alloc, &[])?;
         disk.stop = None;
         disk.faults = 0;
@@ -160,7 +158,7 @@ impl MemDisk {
         Ok(())
     }
 
-    // Writes the bytes and records the call.
+    // Writes the bytes and notes the call.
     fn put(&mut self, at: u64, bytes: &[u8])
         requires calls { 1 ≤ self.old.room_calls }
         requires bytes { room_for_write at (length bytes.now) self.old ≤ self.old.room_bytes }
@@ -168,27 +166,32 @@ impl MemDisk {
     {
         let hole = at.saturating_sub(self.bytes.len() as u64);
         overwrite(&mut self.bytes, at as usize, bytes);
-        coordinator_write(&mut self.records, &mut self.written, at, bytes);
+        self.unsynced.push_reserved(Range {
+            at,
+            count: bytes.len(),
+        });
+        self.past = self.past.with(&Note::Wrote { at, bytes });
         self.room_calls -= 1;
         self.room_bytes -= hole + bytes.len() as u64;
     }
 
-    // Cuts the bytes and records the call.
+    // Cuts the bytes and notes the call.
     fn shorten(&mut self, len: u64)
         requires { 1 ≤ self.old.room_calls }
         ensures { self.new ≡ with_call (cut len) 0 self.old }
     {
         self.bytes.truncate(len as usize);
-        self.records.push_reserved(Record::Cut { len });
+        self.past = self.past.with(&Note::Cut { len });
         self.room_calls -= 1;
     }
 
-    // Records a sync.
+    // Forgets the ranges that were not synced, and notes the call.
     fn settle(&mut self)
         requires { 1 ≤ self.old.room_calls }
         ensures { self.new ≡ with_call synced 0 self.old }
     {
-        self.records.push_reserved(Record::Sync);
+        self.unsynced.clear();
+        self.past = self.past.with(&Note::Synced);
         self.room_calls -= 1;
     }
 }
@@ -253,8 +256,7 @@ impl Disk for MemDisk {
     fn reserve(&mut self, calls: u64, bytes: u64) -> Result<(), NoMemory> {
         let calls = self.room_calls.max(calls);
         let bytes = self.room_bytes.max(bytes);
-        self.records.reserve(calls as usize)?;
-        self.written.reserve(bytes as usize)?;
+        self.unsynced.reserve(calls as usize)?;
         self.bytes.reserve(bytes as usize)?;
         self.room_calls = calls;
         self.room_bytes = bytes;

@@ -1,26 +1,20 @@
-use Rattle.std.proofs.Common.{◌≡◌, ◌-◌, ◌∷◌, [], ◌∙◌, ap, sym, refl, arith}
-use Rattle.crsm_port_image.specs.Calls.{synced}
+use Rattle.std.proofs.Common.{◌≡◌, ◌-◌, ◌∙◌, ap, sym, refl, arith}
 use Rattle.crsm_port_image.specs.Calls.{contents}
-use Rattle.crsm_disk.specs.Records.{told, total}
-use Rattle.crsm_disk.proofs.Told.{told_sync, total_sync}
+use Rattle.crsm_disk.specs.Ranges.{unsynced}
+use Rattle.crsm_disk.specs.declared.past.Past.{Past}
 use Rattle.crsm_disk.proofs.memory.MemDisk.settle.Goals as goal
 
 pub invariant_of-self : goal.invariant_of-self
 invariant_of-self c =
     let i = c.self.invariant in
-    let e : told c.push_reserved.new.self.items c.self.inside.written.items [] ≡ synced ∷ told c.self.inside.records.items c.self.inside.written.items [] =
-    ap (λ rs. told rs c.self.inside.written.items []) c.push_reserved.ensures.items ∙ told_sync c.self.inside.records.items c.self.inside.written.items [] in
     record {
-      bytes = i.bytes ∙ ap (contents c.self.inside.first.items) (sym e);
-      sizes = i.sizes ∙ sym (ap total c.push_reserved.ensures.items ∙ total_sync c.self.inside.records.items);
-      place_records = omega (arith, i.place_records, c.push_reserved.ensures.len, c.push_reserved.ensures.capacity, ap (λ m. m.room_calls) c.self.view_is, c.requires);
-      place_written = i.place_written;
+      bytes = i.bytes ∙ ap (λ (p : Past). contents p.first p.calls) (sym c.with-self-inside.ensures);
+      ranges = c.clear.ensures.items ∙ ap (λ (p : Past). unsynced p.calls) (sym c.with-self-inside.ensures);
+      place_ranges = omega (arith, i.place_ranges, c.clear.ensures.len, c.clear.ensures.capacity, ap (λ m. m.room_calls) c.self.view_is, c.requires);
       place_bytes = i.place_bytes;
     }
 
 pub returns : goal.returns
 returns c =
-    let e : told c.push_reserved.new.self.items c.self.inside.written.items [] ≡ synced ∷ told c.self.inside.records.items c.self.inside.written.items [] =
-    ap (λ rs. told rs c.self.inside.written.items []) c.push_reserved.ensures.items ∙ told_sync c.self.inside.records.items c.self.inside.written.items [] in
     let z : c.self.inside.room_bytes - 0 ≡ c.self.inside.room_bytes = omega arith in
-    rw (← c.self.view_is, e, z) refl
+    rw (← c.self.view_is, c.with-self-inside.ensures, z) refl
