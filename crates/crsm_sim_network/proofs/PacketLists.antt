@@ -1,5 +1,5 @@
 -- Datagrams in memory and in the definitions, one by one.
-use Rattle.std.proofs.Common.{◌≡◌, ◌+◌, ◌-◌, ℕ, zero, suc, arith, length-append, List, [], ◌∷◌, ◌++◌, length, get_or, take, drop, set, true, Option, Some, None, refl, ap, sym, ◌∙◌, subst, ltb, Bor}
+use Rattle.std.proofs.Common.{◌≡◌, ◌+◌, ℕ, zero, suc, arith, length-append, List, [], ◌∷◌, ◌++◌, length, get_or, set, true, Option, Some, None, refl, ap, sym, ◌∙◌, subst, ltb, Bor}
 use Rattle.crsm_sim_network.proofs.Gets.{got, not_got, range_grown, range_end}
 use Rattle.std.specs.Prelude.{slice_get, slice_range, is_some, IfSome, MatchOption}
 use Rattle.std.specs.Option.{option_map_or}

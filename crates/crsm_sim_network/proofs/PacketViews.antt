@@ -1,22 +1,17 @@
 -- The datagrams that leave a replica, one by one.
-use Rattle.std.proofs.Common.{◌≡◌, ◌<◌, ◌+◌, ◌^◌, ℕ, suc, List, [], ◌∷◌, ◌++◌, length, map, get_or, take, Some, refl, ap, sym, ◌∙◌, subst, arith, append_assoc, append-nil, length-append}
+use Rattle.std.proofs.Common.{◌≡◌, ◌<◌, ◌≤◌, ◌+◌, ◌-◌, ℕ, zero, suc, List, [], ◌∷◌, ◌++◌, length, map, min, get_or, take, Some, refl, ap, sym, ◌∙◌, subst, arith, append_assoc, append-nil, length-append}
 use Rattle.std.specs.Prelude.{slice_get, option_map, unwrap_or}
 use Rattle.std.specs.List.{enumerate_from, flat_map}
 use Rattle.std.proofs.lemmas.List.{take_more, map-append, length-map}
-use Rattle.std.proofs.lemmas.Option.{slice_get_within}
 use Rattle.std.proofs.lemmas.List.Sums.{sum_by-append}
 use Rattle.crsm_base.specs.Messages.{datagram_bytes}
 use Rattle.crsm_base.specs.declared.send.Send.{Send}
 use Rattle.crsm_base.specs.declared.send.To.TheVariants as to_whom
 use Rattle.crsm_port.specs.Meaning.{Packet as Sent}
-use Rattle.crsm_port.specs.Packets.{packets}
-use Rattle.crsm_port.specs.Sent.{packets_of}
-use Rattle.crsm_port.specs.declared.sent_packets.Label.{Label}
-use Rattle.crsm_port.specs.declared.sent_packets.SentPackets.{SentPackets}
 use Rattle.crsm_spec.specs.Types.{Datagram, Line}
 use Rattle.crsm_spec.specs.World.{Packet, packet_of, packets_size, send_line, send_lines}
 use Rattle.crsm_sim_network.specs.declared.network.Network.{Network}
-use Rattle.crsm_sim_network.specs.Packets.{NetworkStands, sent_to, to_packets, sent_of}
+use Rattle.crsm_sim_network.specs.Packets.{AreSpelt, NetworkStands, sent_to, to_packets, sent_of}
 
 pub to_replica : (s : Send) (to : ℕ) → s.to ≡ to_whom.Replica to → sent_to s ≡ (to, s.datagram) ∷ []
 unfolding sent_to to_packets
@@ -44,9 +39,8 @@ unfolding send_lines
 none_told lines k n s a e = rw (to_address s a e) (sym (append-nil lines))
 
 -- the bytes that a port has at this place
-pub text_is : (sent : List Sent) (place n : ℕ) (d : Sent) (text : List ℕ) → place ≡ n → slice_get sent place ≡ Some d → option_map {T = Sent} (λ d. d.bytes) (slice_get sent n) ≡ Some text → d.bytes ≡ text
-text_is sent place n d text e f g =
-    ap (λ o. unwrap_or o text) (sym (ap (option_map {T = Sent} (λ d. d.bytes)) (ap (slice_get sent) (sym e) ∙ f)) ∙ g)
+pub text_is : (sent : List Sent) (n : ℕ) (d : Sent) (text : List ℕ) → slice_get sent n ≡ Some d → option_map {T = Sent} (λ d. d.bytes) (slice_get sent n) ≡ Some text → d.bytes ≡ text
+text_is sent n d text f g = ap (λ o. unwrap_or o text) (sym (ap (option_map {T = Sent} (λ d. d.bytes)) f) ∙ g)
 
 -- ---- several
 
@@ -104,17 +98,21 @@ told_next lines before after packets k sends i s l e f g =
 
 -- ---- the datagrams on a port
 
-count_packets : (labels : List Label) (bytes : List ℕ) → length (packets labels bytes) ≡ length labels
-count_packets [] bytes = refl
-count_packets (l ∷ labels) bytes = ap suc (count_packets labels bytes)
+got_within : (sent : List Sent) (n : ℕ) (text : List ℕ) → option_map {T = Sent} (λ d. d.bytes) (slice_get sent n) ≡ Some text → n < length sent
+got_within [] n text e = cc
+got_within (d ∷ sent) zero text e = omega arith
+got_within (d ∷ sent) (suc n) text e = let h = got_within sent n text e in omega (arith, h)
 
--- whatever has an index on a port is in memory, and so has the next index a number
-pub index_fits : (sent : SentPackets) (place : ℕ) (d : Sent) → slice_get (packets_of sent) place ≡ Some d → place + 1 < 2 ^ 64
-index_fits sent place d here =
-    let labels = sent.labels in
-    let within = slice_get_within (packets_of sent) place d here in
-    let count = count_packets labels.items sent.bytes.items in
-    let k = labels.ok.0 in
-    let m = labels.ok.1 in
-    let s = labels.small in
-    omega (arith, within, count, k, m, s)
+-- a port has all that is spelt there
+all_there : (sends : List Send) (sent : List Sent) (first : ℕ) → AreSpelt sends sent first → length sends ≤ length sent - first
+all_there [] sent first spelt = omega arith
+all_there (s ∷ sends) sent first spelt =
+    let z : first + 0 ≡ first = omega arith in
+    let here : first < length sent = got_within sent first _ (subst (λ n. option_map {T = Sent} (λ d. d.bytes) (slice_get sent n) ≡ Some (datagram_bytes s.datagram)) z (spelt 0 s refl)) in
+    let next : (i : ℕ) → first + suc i ≡ first + 1 + i = λ i. omega arith in
+    let others = all_there sends sent (first + 1) (λ i t e. subst (λ n. option_map {T = Sent} (λ d. d.bytes) (slice_get sent n) ≡ Some (datagram_bytes t.datagram)) (next i) (spelt (suc i) t e)) in
+    omega (arith, here, others)
+
+-- so as many as it has there are all of them
+pub all_go : (sends : List Send) (sent : List Sent) (len first there count : ℕ) → len ≡ length sent → there ≡ len - first → count ≡ min there (length sends) → AreSpelt sends sent first → length sends ≡ count
+all_go sends sent len first there count l t e spelt = let most = all_there sends sent first spelt in omega (arith, most, l, t, e)

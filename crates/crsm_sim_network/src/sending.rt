@@ -11,7 +11,7 @@ ghost use Rattle.crsm_port.specs.Sent.{packets_of};
 use crate::network::Network;
 use crate::packets::PacketEntry;
 use crate::receivers::class_of;
-use crsm_base::{Bytes, Datagram, Line, Lines, NoMemory, Send, SendKind, To, never};
+use crsm_base::{Bytes, Datagram, Line, Lines, NoMemory, Send, SendKind, To};
 use crsm_port::SentPackets;
 use std::alloc::Global;
 
@@ -80,8 +80,8 @@ impl Network {
     }
 
     /// Records the output of a step of replica `k` in order, and appends the lines of its packets. A port has sent it:
-    /// the bytes are those of the port from index `first` on. Returns the index behind them. `NoMemory` if memory runs
-    /// out.
+    /// the bytes are those of the port from index `first` on, and no more is recorded than the port has there. Returns
+    /// the index behind them. `NoMemory` if memory runs out.
     pub fn send_all(
         &mut self,
         k: u32,
@@ -95,18 +95,17 @@ impl Network {
             HasSent self.new packets bytes k (sent_of sends.now))) }
         ensures lines { OnOk result (WhereStands self.old (λ packets bytes. AreSpelt sends.now (packets_of sent.now) first →
             lines.new ≡ lines.old ++ on_paper.send_lines k (length packets) (sent_of sends.now))) }
-        ensures behind { IfOk result (λ next. next ≡ first + length sends.now) }
+        ensures behind { IfOk result (λ next. AreSpelt sends.now (packets_of sent.now) first → next ≡ first + length sends.now) }
     {
-        let mut place = first;
-        for send in sends {
-            // The port has each of them.
-            let Some((_, text)) = sent.get(place) else {
-                return Err(never());
+        let there = sent.len().saturating_sub(first);
+        let count = there.min(sends.len());
+        for (i, send) in sends[..count].iter().enumerate() {
+            let Some((_, text)) = sent.get(first + i) else {
+                unreachable!();
             };
             self.send_one(k, send, text, lines)?;
-            place += 1;
         }
-        Ok(place)
+        Ok(first + count)
     }
 }
 

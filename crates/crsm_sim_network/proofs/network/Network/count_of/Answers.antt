@@ -1,4 +1,4 @@
-use Rattle.std.proofs.Common.{◌∙◌, ap, map, List, Bool}
+use Rattle.std.proofs.Common.{◌∙◌, ap, map}
 use Rattle.std.specs.List.{count_by}
 use Rattle.crsm_sim_network.specs.Tally.{is_wanted}
 use Rattle.crsm_sim_network.specs.Packets.{class_of_packet, is_of, wanted}

@@ -1,4 +1,4 @@
-use Rattle.std.proofs.Common.{◌≡◌, ◌<◌, ◌∙◌, ap, map, subst, sym, List, Bool, ℕ}
+use Rattle.std.proofs.Common.{◌<◌, map, subst, sym, List, Bool, ℕ}
 use Rattle.std.specs.List.{count_by}
 use Rattle.crsm_sim_network.specs.Nth.{IsNth}
 use Rattle.crsm_sim_network.specs.Tally.{is_wanted}
