@@ -1,5 +1,5 @@
 -- The view of a world: the indices of datagrams, and who is up.
-use Rattle.std.proofs.Common.{◌≡◌, ◌<◌, ◌≤◌, ◌+◌, ℕ, zero, suc, Bool, true, false, cond, not, ◌&&◌, ◌||◌, List, [], ◌∷◌, length, map, take, Option, Some, None, refl, ap, sym, ◌∙◌, subst, arith, inl, inr}
+use Rattle.std.proofs.Common.{◌≡◌, ◌≤◌, ◌+◌, ℕ, zero, suc, Bool, true, false, cond, not, ◌&&◌, ◌||◌, List, [], ◌∷◌, length, map, take, Some, None, refl, ap, sym, ◌∙◌, arith, inl, inr}
 use Rattle.std.specs.Prelude.{slice_get, filter, nat_eq, nat_lt, option_map}
 use Rattle.std.specs.List.{count_by, enumerate_from}
 use Rattle.std.specs.Option.{option_map_or}
@@ -7,7 +7,7 @@ use Rattle.std.proofs.lemmas.Bool.{ltb-true, ltb-false, lt-ltb, le-ltb}
 use Rattle.std.proofs.lemmas.Bool.Decides.{eqb_tells}
 use Rattle.std.proofs.lemmas.List.Sums.{sum_by-cons}
 use Rattle.std.proofs.lemmas.Option.{slice_get-map, slice_get_past}
-use Rattle.crsm_sim_generator.specs.View.{Mark, View, places, is_up_in as is_seen_up, fresh_seen, fresh_to_any, fresh_to_up, used_to_up}
+use Rattle.crsm_sim_generator.specs.View.{Mark, places, is_up_in as is_seen_up, fresh_seen, fresh_to_any, fresh_to_up, used_to_up}
 use Rattle.crsm_sim_network.specs.Packets.{is_of}
 use Rattle.crsm_spec.specs.World.{Packet, Site, World as Cluster, is_up, is_up_at}
 use Rattle.crsm_sim_network.specs.Nth.{IsNth}

@@ -27,7 +27,7 @@ use Rattle.crsm_world.specs.Machines.{MachinesPend, MachinesStand}
 use Rattle.crsm_world.specs.declared.groups.DeliveredStep.{DeliveredStep}
 use Rattle.crsm_sim_network.specs.declared.Network.{Network}
 use Rattle.crsm_sim_network.specs.Packets.{AreSpelt, IsPacketView, NetworkStands, used_up, receiver_of}
-use Rattle.crsm_world.specs.Several.{IsFor, AreFor, AreStill, IsStill, Runs, TookAll, all_gone, each_gone, gone, number_of, step_of, together}
+use Rattle.crsm_world.specs.Several.{IsFor, AreFor, AreStill, IsStill, Runs, TakesOne, TookAll, all_gone, each_gone, gone, number_of, step_of, together}
 use Rattle.crsm_world.specs.World.{Holds, HoldsBeside, Leads, LeadsOn}
 use Rattle.crsm_world.proofs.Letting.{drop_seam, spelt_here}
 use Rattle.crsm_world.proofs.Turns.{get_set}
@@ -193,17 +193,23 @@ for_one k packets [] i l all = absurd (omega arith)
 for_one k packets (j ∷ is) zero l all = all.0
 for_one k packets (j ∷ is) (suc i) l all = for_one k packets is i (omega arith) all.1
 
-pub took_more : (k t : ℕ) (v : Cluster) (is : List ℕ) (i : ℕ) (w new : World) (taken more : List DeliveredStep) (a : DeliveredStep) → TookAll k t v (take i is) w taken → i < length is → AreFor k v.packets is → a.number ≡ get_or is i 0
-    → ((u : Cluster) (n : ℕ) (places : List Site) (r : Replica) (steps : List Draft) → HoldsBeside k steps w u n places → slice_get places k ≡ Some (Site.Up r) → (p : Packet) → slice_get u.packets (get_or is i 0) ≡ Some p
-    → Makes a.step (step_of r p t) × HoldsBeside k (steps ++ step_of r p t ∷ []) new u n (slice_set places k (Site.Up (step_of r p t).replica)))
-    → more ≡ taken ++ a ∷ [] → TookAll k t v (take (i + 1) is) new more
-took_more k t v is i w new taken more a g l all number step e =
+took_one : (k t i : ℕ) (w : World) (before after : List DeliveredStep) (v : Cluster) (n : ℕ) (places : List Site) (r : Replica) (steps : List Draft) (p : Packet) → slice_get v.packets i ≡ Some p → TakesOne k t i w before after v n places r steps
+    → (a : DeliveredStep) × (after ≡ before ++ a ∷ []) × (a.number ≡ i) × Makes a.step (step_of r p t) × HoldsBeside k (steps ++ step_of r p t ∷ []) w v n (slice_set places k (Site.Up (step_of r p t).replica))
+took_one k t i w before after v n places r steps p f h = rw f at h
+
+pub took_more : (k t : ℕ) (v : Cluster) (is : List ℕ) (i : ℕ) (w new : World) (taken more : List DeliveredStep) → TookAll k t v (take i is) w taken → i < length is → AreFor k v.packets is
+    → ((u : Cluster) (n : ℕ) (places : List Site) (r : Replica) (steps : List Draft) → HoldsBeside k steps w u n places → slice_get places k ≡ Some (Site.Up r) → TakesOne k t (get_or is i 0) new taken more u n places r steps)
+    → TookAll k t v (take (i + 1) is) new more
+took_more k t v is i w new taken more g l all step =
     let j = get_or is i 0 in
     let f = for_one k v.packets is i l all in
     let p = f.found in
     let q = g.still j p f.is in
     let x = step_of g.replica p t in
-    let made = step v g.now.n g.now.sites g.replica g.steps g.held g.up p f.is in
+    let one = took_one k t j new taken more v g.now.n g.now.sites g.replica g.steps p f.is (step v g.now.n g.now.sites g.replica g.steps g.held g.up) in
+    let a = one.0 in
+    let e = one.1 in
+    let number = one.2 in
     let same : step_of g.replica q.found t ≡ x = ap (λ (b : ℕ). begin_step g.replica (Input.Came b q.found.datagram) t) q.from ∙ ap (λ (d : _). begin_step g.replica (Input.Came p.from d) t) q.datagram in
     let went : gone t j g.now ≡ begun_at g.now (whole_step (use_up j g.now) k x) = gone_is k t j g.now g.replica q.found q.is (q.to ∙ f.receiver) g.up ∙ ap (λ (y : Draft). begun_at g.now (whole_step (use_up j g.now) k y)) same in
     let went_a : gone t a.number g.now ≡ begun_at g.now (whole_step (use_up a.number g.now) k x) = subst (λ (b : ℕ). gone t b g.now ≡ begun_at g.now (whole_step (use_up b g.now) k x)) (sym number) went in
@@ -212,11 +218,11 @@ took_more k t v is i w new taken more a g l all number step e =
       now = (gone t a.number g.now).after;
       replica = x.replica;
       steps = g.steps ++ x ∷ [];
-      runs = subst (λ (ts : List DeliveredStep). Runs k t v ts (g.steps ++ x ∷ []) (gone t a.number g.now).after) (sym e) (runs_more k t v taken g.steps g.now a x g.runs went_a made.0);
+      runs = subst (λ (ts : List DeliveredStep). Runs k t v ts (g.steps ++ x ∷ []) (gone t a.number g.now).after) (sym e) (runs_more k t v taken g.steps g.now a x g.runs went_a one.3);
       numbers = ap (map number_of) e ∙ map-append number_of taken (a ∷ []) ∙ ap (λ ns. ns ++ a.number ∷ []) g.numbers ∙ ap (λ b. take i is ++ b ∷ []) number ∙ sym (take_more is i 0 l);
       up = ap (λ (ps : List Site). slice_get ps k) after.sites ∙ get_set g.now.sites k _ (Site.Up g.replica) g.up;
       held = subst (λ (ps : List Site). HoldsBeside k (g.steps ++ x ∷ []) new v (gone t a.number g.now).after.n ps) (sym after.sites)
-          (subst (λ (m : ℕ). HoldsBeside k (g.steps ++ x ∷ []) new v m (slice_set g.now.sites k (Site.Up x.replica))) (sym after.n) made.1);
+          (subst (λ (m : ℕ). HoldsBeside k (g.steps ++ x ∷ []) new v m (slice_set g.now.sites k (Site.Up x.replica))) (sym after.n) one.4);
       still = still_then _ _ _ g.still (still_then _ _ _ (still_used g.now.packets a.number)
           (subst (λ (ps : List Packet). AreStill (used_up a.number g.now.packets) ps) (sym after.packets) (still_longer (used_up a.number g.now.packets) (map (packet_of k) x.sends))));
     }
@@ -266,7 +272,7 @@ unfolding begun_at whole_step after_step use_up used_up
 out_one k i v x network before lines o = (o.stands, o.told)
 
 pub out_more : (k t : ℕ) (v now : Cluster) (all rest more : List DeliveredStep) (a : DeliveredStep) (sent : List Sent) (place next : ℕ) (w new : World) (lines more_lines : List Line) → Out k t v now all rest sent place w lines → rest ≡ a ∷ more
-    → next ≡ place + length a.step.batch.sends
+    → (AreSpelt a.step.batch.sends sent place → next ≡ place + length a.step.batch.sends)
     → ((u : Cluster) (x : Draft) → NetworkStands w.network u.packets u.bytes → Makes a.step x → AreSpelt a.step.batch.sends sent place → LetsOut lines (used_up a.number u.packets) u.bytes k x x.sends x.replies new.network more_lines)
     → Out k t v now all more sent next new more_lines
 unfolding sends_of sends_in
@@ -280,7 +286,8 @@ out_more k t v now all rest more a sent place next w new lines more_lines g e n 
         let sends : sends_in x ≡ a.step.batch.sends = sym runs.1.batch.made.sends in
         let split : drop place (map (λ d. d.bytes) sent) ≡ map (λ s. datagram_bytes s.datagram) a.step.batch.sends ++ map (λ s. datagram_bytes s.datagram) (sends_of left) =
         texts ∙ map-append (λ s. datagram_bytes s.datagram) (sends_in x) (sends_of left) ∙ ap (λ (ss : List Send). map (λ s. datagram_bytes s.datagram) ss ++ map (λ s. datagram_bytes s.datagram) (sends_of left)) sends in
-        let done = out_one k a.number g.at x new.network lines more_lines (out g.at x g.network runs.1 (spelt_here a.step.batch.sends (map (λ s. datagram_bytes s.datagram) (sends_of left)) sent place split)) in
+        let spelt = spelt_here a.step.batch.sends (map (λ s. datagram_bytes s.datagram) (sends_of left)) sent place split in
+        let done = out_one k a.number g.at x new.network lines more_lines (out g.at x g.network runs.1 spelt) in
         let both = subst (λ (n : Moment). NetworkStands new.network n.after.packets n.after.bytes × (more_lines ≡ lines ++ n.lines)) (sym runs.0) done in
         let rest_is : go_all t (map number_of rest) g.at ≡ m ∷ go_all t (map number_of more) m.after = ap (λ (ts : List DeliveredStep). go_all t (map number_of ts) g.at) e ∙ gone_first t a.number (map number_of more) g.at in
         record {
@@ -288,7 +295,7 @@ out_more k t v now all rest more a sent place next w new lines more_lines g e n 
           left = left;
           runs = runs.2;
           network = both.0;
-          texts = ap (λ b. drop b (map (λ d. d.bytes) sent)) n ∙ drop_both (map (λ d. d.bytes) sent) place (length a.step.batch.sends) ∙ ap (drop (length a.step.batch.sends)) split
+          texts = ap (λ b. drop b (map (λ d. d.bytes) sent)) (n spelt) ∙ drop_both (map (λ d. d.bytes) sent) place (length a.step.batch.sends) ∙ ap (drop (length a.step.batch.sends)) split
               ∙ ap (λ b. drop b (map (λ s. datagram_bytes s.datagram) a.step.batch.sends ++ map (λ s. datagram_bytes s.datagram) (sends_of left))) (sym (length-map a.step.batch.sends (λ s. datagram_bytes s.datagram)))
               ∙ drop_seam (map (λ s. datagram_bytes s.datagram) a.step.batch.sends) (map (λ s. datagram_bytes s.datagram) (sends_of left));
           after = g.after ∙ ap (world_after g.at) rest_is ∙ after_first g.at m _;
@@ -320,18 +327,14 @@ turn_is r m p from t bytes is e f =
     ap (λ a. turn r (Turn.In a bytes, t)) (e ∙ is.from) ∙ ap (λ b. turn r (Turn.In p.from b, t)) (f ∙ is.bytes)
     ∙ ap (λ i. option_map_or (λ j. begin_step r j t) (option_map (Input.Came p.from) i) (begun r)) (datagram_of-bytes p.datagram is.fits)
 
-pub not_found : (packets : List Packet) (i : ℕ) (p : Packet) → slice_get packets i ≡ Some p → slice_get packets i ≡ None → ⊥
-not_found packets i p f e = cc
-
-pub taken : (k t i : ℕ) (v : Cluster) (n : ℕ) (places : List Site) (r : Replica) (steps : List Draft) (p q : Packet) (m : PacketView) (from : ℕ) (bytes : List ℕ) (w : World) (made : Step) → slice_get v.packets i ≡ Some p
-    → slice_get v.packets i ≡ Some q → IsPacketView m q → from ≡ m.from → bytes ≡ m.bytes.now → NetworkStands w.network v.packets v.bytes
+pub taken : (k t : ℕ) (v : Cluster) (n : ℕ) (places : List Site) (r : Replica) (steps : List Draft) (p : Packet) (m : PacketView) (from : ℕ) (bytes : List ℕ) (w : World) (made : Step) → IsPacketView m p → from ≡ m.from → bytes ≡ m.bytes.now
+    → NetworkStands w.network v.packets v.bytes
     → Makes made (turn r (Turn.In from bytes, t)) × MachinesPend k (steps ++ turn r (Turn.In from bytes, t) ∷ []) w.sites n (slice_set places k (Site.Up (turn r (Turn.In from bytes, t)).replica))
     → Makes made (step_of r p t) × HoldsBeside k (steps ++ step_of r p t ∷ []) w v n (slice_set places k (Site.Up (step_of r p t).replica))
-taken k t i v n places r steps p q m from bytes w made f found is e g network stands =
-    let same : q ≡ p = cc in
+taken k t v n places r steps p m from bytes w made is e g network stands =
     let whole : Makes made (turn r (Turn.In from bytes, t)) × HoldsBeside k (steps ++ turn r (Turn.In from bytes, t) ∷ []) w v n (slice_set places k (Site.Up (turn r (Turn.In from bytes, t)).replica)) =
     (stands.0, record { sites = stands.1; network = network }) in
-    subst (λ (x : Draft). Makes made x × HoldsBeside k (steps ++ x ∷ []) w v n (slice_set places k (Site.Up x.replica))) (turn_is r m p from t bytes (subst (λ (a : Packet). IsPacketView m a) same is) e g) whole
+    subst (λ (x : Draft). Makes made x × HoldsBeside k (steps ++ x ∷ []) w v n (slice_set places k (Site.Up x.replica))) (turn_is r m p from t bytes is e g) whole
 
 pub nothing_gone : (v : Cluster) (t : ℕ) (w : World) (lines : List Line) → Holds w v → lines ≡ [] → Leads (all_gone t [] v) w lines
 unfolding all_gone together world_after lines_of go_all

@@ -8,7 +8,7 @@ use Rattle.crsm_base.proofs.DatagramLaws.{datagram_of-bytes}
 use Rattle.crsm_replica_io.proofs.Lengths.{datagram_short}
 use Rattle.crsm_spec.specs.Types.{Datagram}
 use Rattle.crsm_spec.specs.Replica.{Replica}
-use Rattle.crsm_spec.specs.Draft.{Draft, begun}
+use Rattle.crsm_spec.specs.Draft.{begun}
 use Rattle.crsm_spec.specs.Step.{Input, step}
 use Rattle.crsm_spec.specs.Node.{Turn, turn, input_of}
 use Rattle.crsm_spec.specs.World.{Site, Packet, World, Ending, is_up, log_of, log_at}

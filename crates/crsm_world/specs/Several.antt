@@ -1,5 +1,5 @@
 -- Several deliveries as one change.
-use Rattle.std.specs.Prelude.{◌≡◌, ℕ, List, [], ◌∷◌, ◌++◌, map, Some, slice_get, slice_set}
+use Rattle.std.specs.Prelude.{◌≡◌, ℕ, List, [], ◌∷◌, ◌++◌, map, MatchOption, Some, slice_get, slice_set}
 use Rattle.std.specs.List.{AllByRecursion}
 use Rattle.crsm_core.specs.Core.{FitsSent}
 use Rattle.crsm_sim_machine.specs.Outcomes.{Makes, Sends}
@@ -84,10 +84,12 @@ pub record TookAll (k t : ℕ) (v : World) (is : List ℕ) (w : WorldInMemory) (
   pub held : HoldsBeside k steps w v now.n now.sites
   pub still : AreStill v.packets now.packets
 
--- the step of datagram i of v, which is delivered to r after other steps, neither durable nor sent
-abbrev pub TakesOne : (k t i : ℕ) → WorldInMemory → DeliveredStep → World → ℕ → List Site → Replica → List Draft → Type 0
-TakesOne k t i w taken v n places r steps = (p : Packet) → slice_get v.packets i ≡ Some p →
-    Makes taken.step (step_of r p t) × HoldsBeside k (steps ++ step_of r p t ∷ []) w v n (slice_set places k (Site.Up (step_of r p t).replica))
+-- Datagram i of v is delivered to r after other steps, and its step, which is neither durable nor sent, is behind those
+-- before. Nothing happens if it was not sent.
+abbrev pub TakesOne : (k t i : ℕ) → WorldInMemory → (before after : List DeliveredStep) → World → ℕ → List Site → Replica → List Draft → Type 0
+TakesOne k t i w before after v n places r steps =
+    MatchOption (slice_get v.packets i) ((after ≡ before) × HoldsBeside k steps w v n places) (λ p. (a : DeliveredStep) × (after ≡ before ++ a ∷ []) × (a.number ≡ i)
+    × Makes a.step (step_of r p t) × HoldsBeside k (steps ++ step_of r p t ∷ []) w v n (slice_set places k (Site.Up (step_of r p t).replica)))
 
 -- for whatever replica k has taken from world v on, and has kept and sent from this place on
 abbrev pub WhereTaken : WorldInMemory → ℕ → List DeliveredStep → ℕ → (ℕ → World → Type 0) → Type 0

@@ -12,7 +12,7 @@ ghost use Rattle.crsm_world.specs.Several.{AreFor, FitsTaken, TakesOne, TookAll,
 use crate::ending::Ending;
 use crate::outgoing::let_all_out;
 use crate::world::World;
-use crsm_base::{Lines, NoMemory, never};
+use crsm_base::{Lines, NoMemory};
 use crsm_sim_machine::{Arrival, Step, machines_pend_nothing};
 
 /// A datagram that was delivered, and the output of its step.
@@ -47,26 +47,32 @@ impl World {
         Ok(lines)
     }
 
-    /// Delivers a datagram to replica `k`, which is up, in one of the steps that become durable together.
-    fn take(&mut self, k: u32, number: u64, reading: u64) -> Result<DeliveredStep, NoMemory>
+    /// Delivers a datagram to replica `k`, which is up, in one of the steps that become durable together, and appends
+    /// its step. Nothing happens if the datagram was not sent.
+    fn take(
+        &mut self,
+        k: u32,
+        number: u64,
+        reading: u64,
+        taken: &mut Vec<DeliveredStep>,
+    ) -> Result<(), NoMemory>
         requires within { k < length self.old.sites.items.items }
         requires up { IsNotDownAt self.old.sites k }
-        ensures number { IfOk result (λ taken. taken.number ≡ number) }
-        ensures stands { IfOk result (λ taken. WhereHeldBeside self.old k (TakesOne k reading number self.new taken)) }
-        ensures spelt { IfOk result (λ taken. FitsTaken taken) }
+        ensures stands { OnOk result (WhereHeldBeside self.old k (TakesOne k reading number self.new taken.old.items taken.new.items)) }
+        ensures spelt { OnOk result (AllByRecursion FitsTaken taken.old.items → AllByRecursion FitsTaken taken.new.items) }
         ensures count { OnOk result (length self.new.sites.items.items ≡ length self.old.sites.items.items) }
         ensures up { OnOk result (IsNotDownAt self.new.sites k) }
     {
-        // A group has only datagrams that were sent.
         let Some(packet) = self.network.packet(number) else {
-            return Err(never());
+            return Ok(());
         };
         let arrival = Arrival::Bytes {
             from: u64::from(packet.from),
             bytes: packet.bytes,
         };
         let step = self.sites.take(k, arrival, reading)?;
-        Ok(DeliveredStep { number, step })
+        taken.push(DeliveredStep { number, step })?;
+        Ok(())
     }
 
     /// Delivers these datagrams to replica `k`, which is up. Their steps are not durable yet.
@@ -86,8 +92,7 @@ impl World {
         machines_pend_nothing();
         let mut taken = Vec::new(self.alloc);
         for number in numbers {
-            let one = self.take(k, *number, reading)?;
-            taken.push(one)?;
+            self.take(k, *number, reading, &mut taken)?;
         }
         Ok(taken)
     }

@@ -34,7 +34,8 @@ pub(crate) fn let_out(
     requires { AllByRecursion FitsSent step.batch.sends }
     ensures stands { OnOk result (WhereMade network.old step (λ packets bytes x. AreSpelt (take count step.batch.sends) (packets_of sent.now) first →
         LetsOutSome count lines.old packets bytes k x network.new lines.new)) }
-    ensures behind { IfOk result (λ next. next ≡ first + min count (length step.batch.sends)) }
+    ensures behind { IfOk result (λ next. AreSpelt (take count step.batch.sends) (packets_of sent.now) first →
+        next ≡ first + min count (length step.batch.sends)) }
 {
     let mut step = step;
     let made = step.batch.sends.as_slice().len();
@@ -77,7 +78,7 @@ pub(crate) fn let_all_out(
     lines: &mut Lines,
 ) -> Result<usize, NoMemory>
     requires { AllByRecursion FitsSent step.batch.sends }
-    ensures behind { IfOk result (λ next. next ≡ first + length step.batch.sends) }
+    ensures behind { IfOk result (λ next. AreSpelt step.batch.sends (packets_of sent.now) first → next ≡ first + length step.batch.sends) }
     ensures stands { OnOk result (WhereMade network.old step (λ packets bytes x. AreSpelt step.batch.sends (packets_of sent.now) first →
         LetsOut lines.old packets bytes k x x.sends x.replies network.new lines.new)) }
 {

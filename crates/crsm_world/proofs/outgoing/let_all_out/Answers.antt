@@ -7,7 +7,7 @@ returns-clause-stands c packets bytes x h made spelt =
     lets_all_out _ packets bytes c.args.k _ x c.as_slice.result.now _ _ (c.as_slice.ensures ∙ made.batch.made.sends) refl (c.in_ok-next.ensures.stands packets bytes x h made (spelt_first _ _ _ _ spelt))
 
 pub returns-clause-behind : goal.returns-clause-behind
-returns-clause-behind c =
-    let next = c.in_ok-next.ensures.behind in
+returns-clause-behind c spelt =
+    let next = c.in_ok-next.ensures.behind (spelt_first _ _ _ _ spelt) in
     let all = ap length c.as_slice.ensures in
     omega (arith, next, all)

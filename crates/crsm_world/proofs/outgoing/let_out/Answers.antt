@@ -26,8 +26,9 @@ returns-clause-stands c packets bytes x h makes spelt =
     (c.in_ok-add_replies.ensures ∙ ap (λ ls. c.send_all.new.lines ++ take c.saturating_sub-shown.result ls) (c.in_ok-add_first.ensures.stay ∙ ap (drop own) (sym c.as_slice-told.ensures)))
 
 pub returns-clause-behind : goal.returns-clause-behind
-returns-clause-behind c =
-    let next = c.in_ok-next.ensures.behind in
+returns-clause-behind c spelt =
+    let texts = spelt_taken c.args.count c.min-out.result c.as_slice-2.result.now c.args.step.batch.sends (packets_of c.args.sent.now) c.args.first c.as_slice-2.ensures (c.min-out.ensures ∙ ap (λ (ss : List Send). min c.args.count (length ss)) c.as_slice-made.ensures) spelt in
+    let next = c.in_ok-next.ensures.behind texts in
     let count = length-take c.min-out.result c.as_slice-2.result.now in
     let out = c.min-out.ensures in
     let made = ap length c.as_slice-made.ensures in

@@ -1,4 +1,4 @@
-use Rattle.std.proofs.Common.{◌≡◌, ◌∙◌, length, sym, subst, true}
+use Rattle.std.proofs.Common.{◌≡◌, ◌∙◌, length, sym, subst}
 use Rattle.crsm_sim_generator.specs.View.{View, fresh_seen}
 use Rattle.crsm_world.specs.Seen.{is_receiver}
 use Rattle.crsm_world.specs.World.{WorldStands}

@@ -1,4 +1,4 @@
-use Rattle.std.proofs.Common.{◌≡◌, ◌<◌, ◌∙◌, length, sym, subst, true, ℕ, Some}
+use Rattle.std.proofs.Common.{◌≡◌, ◌<◌, length, sym, subst, true, ℕ, Some}
 use Rattle.std.specs.Prelude.{slice_get}
 use Rattle.crsm_sim_generator.specs.View.{View, used_to_up}
 use Rattle.crsm_world.specs.Seen.{is_receiver}

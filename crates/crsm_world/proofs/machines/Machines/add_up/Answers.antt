@@ -1,5 +1,5 @@
 use Rattle.std.proofs.Common.{◌∙◌, ap, sym}
-use Rattle.std.specs.Prelude.{nat_eq, ◌||◌, ◌&&◌}
+use Rattle.std.specs.Prelude.{nat_eq, ◌||◌}
 use Rattle.crsm_sim_network.proofs.Receiving.{alike}
 use Rattle.crsm_world.specs.Machines.{is_up_in}
 use Rattle.crsm_world.proofs.Looking.{added_down, added_up}

@@ -1,6 +1,5 @@
-use Rattle.std.proofs.Common.{◌≡◌, ◌∙◌, ℕ, None, Some, ap, arith, subst}
+use Rattle.std.proofs.Common.{◌≡◌, ◌∙◌, ℕ, None, Some, arith, subst}
 use Rattle.std.specs.Prelude.{slice_get}
-use Rattle.crsm_spec.specs.World.{final_line}
 use Rattle.crsm_sim_machine.specs.Machine.{MachineStands}
 use Rattle.crsm_world.proofs.Sites.{finals_done, finals_next, past_none}
 use Rattle.crsm_world.proofs.machines.Machines.finals.Goals as goal

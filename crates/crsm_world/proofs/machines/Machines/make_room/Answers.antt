@@ -1,5 +1,5 @@
 use Rattle.std.proofs.Common.{◌∙◌, sym, subst, arith}
-use Rattle.std.proofs.Common.{◌≡◌, ◌++◌, ◌∷◌, ℕ, List, Some, []}
+use Rattle.std.proofs.Common.{◌≡◌, ℕ, List, Some, []}
 use Rattle.std.specs.Prelude.{slice_get}
 use Rattle.crsm_sim_machine.specs.declared.Machine.{Machine}
 use Rattle.crsm_spec.specs.World.{Site}

@@ -3,6 +3,7 @@ use Rattle.std.specs.List.{AllByRecursion}
 use Rattle.std.specs.Vec.Iter.{into_iter_items}
 use Rattle.crsm_sim_network.specs.Packets.{AreSpelt}
 use Rattle.crsm_port.specs.Meaning.{Packet as Sent}
+use Rattle.crsm_port.specs.Sent.{packets_of}
 use Rattle.crsm_world.specs.declared.groups.DeliveredStep.{DeliveredStep}
 use Rattle.crsm_world.specs.Machines.{MachinesStand}
 use Rattle.crsm_world.specs.Several.{FitsTaken}
@@ -19,8 +20,10 @@ loop-one-preserved c =
       spelt = (subst (λ (ts : List DeliveredStep). AllByRecursion FitsTaken ts) steps at.invariant.spelt).1;
       out = λ t v now drafts h runs sent.
           let sent_is = c.sent.ensures ∙ ap (λ s. s.port.sent) at.invariant.sites in
-          out_more c.args.k t v now _ _ _ c.in-Some.one _ at.place c.in_ok-next.next at.self (record at.self { network = c.let_all_out.new.network }) at.lines c.let_all_out.new.lines (at.invariant.out t v now drafts h runs sent) steps c.in_ok-next.ensures.behind
-          (λ u x network made spelt. c.in_ok-next.ensures.stands _ u.bytes x (c.use_up.ensures u.packets u.bytes network) made (subst (λ (ds : List Sent). AreSpelt c.in-Some.one.step.batch.sends ds at.place) (sym sent_is) spelt));
+          let there : AreSpelt c.in-Some.one.step.batch.sends c.args.self.now.sites.port.sent at.place → AreSpelt c.in-Some.one.step.batch.sends (packets_of c.sent.result.now) at.place =
+          subst (λ (ds : List Sent). AreSpelt c.in-Some.one.step.batch.sends ds at.place) (sym sent_is) in
+          out_more c.args.k t v now _ _ _ c.in-Some.one _ at.place c.in_ok-next.next at.self (record at.self { network = c.let_all_out.new.network }) at.lines c.let_all_out.new.lines (at.invariant.out t v now drafts h runs sent) steps (λ spelt. c.in_ok-next.ensures.behind (there spelt))
+          (λ u x network made spelt. c.in_ok-next.ensures.stands _ u.bytes x (c.use_up.ensures u.packets u.bytes network) made (there spelt));
     }
 
 pub returns : goal.returns

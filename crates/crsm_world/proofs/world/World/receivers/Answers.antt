@@ -1,4 +1,4 @@
-use Rattle.std.proofs.Common.{Bool, true, false, sym, subst}
+use Rattle.std.proofs.Common.{Bool, true, sym, subst}
 use Rattle.crsm_sim_network.proofs.Receiving.{alike}
 use Rattle.crsm_sim_network.specs.Packets.{Receives}
 use Rattle.crsm_world.specs.Machines.{is_up_in}

@@ -1,8 +1,7 @@
-use Rattle.std.proofs.Common.{◌∙◌, [], ◌∷◌, List, sym, refl, subst, take_all}
+use Rattle.std.proofs.Common.{◌∙◌, List, sym, refl, subst, take_all}
 use Rattle.std.specs.List.{AllByRecursion}
 use Rattle.crsm_world.specs.declared.groups.DeliveredStep.{DeliveredStep}
 use Rattle.crsm_world.specs.Several.{FitsTaken, TookAll}
-use Rattle.crsm_world.proofs.Schedules.{all_append}
 use Rattle.crsm_world.proofs.Series.{took_more, took_none}
 use Rattle.crsm_world.proofs.Sites.{pend_begin, pending_from}
 use Rattle.crsm_world.proofs.world.World.take_all.Goals as goal
@@ -18,11 +17,11 @@ loop-number-init c = record {
 
 pub loop-number-preserved : goal.loop-number-preserved
 loop-number-preserved c = record {
-  count = c.in_ok-one.ensures.count ∙ c.loop-number.invariant.count;
-  up = c.in_ok-one.ensures.up;
-  spelt = subst (λ (ts : List DeliveredStep). AllByRecursion FitsTaken ts) (sym c.in_ok-push.ensures.items) (all_append FitsTaken c.loop-number.taken.items (c.in_ok-one.one ∷ []) c.loop-number.invariant.spelt (c.in_ok-one.ensures.spelt, tt));
-  takes = λ v r h e f. took_more c.args.k c.args.reading v c.args.numbers.now c.loop-number.number-index c.loop-number.self c.take.new.self c.loop-number.taken.items _ c.in_ok-one.one (c.loop-number.invariant.takes v r h e f)
-      c.loop-number-test.true f c.in_ok-one.ensures.number c.in_ok-one.ensures.stands c.in_ok-push.ensures.items;
+  count = c.in_ok-take.ensures.count ∙ c.loop-number.invariant.count;
+  up = c.in_ok-take.ensures.up;
+  spelt = c.in_ok-take.ensures.spelt c.loop-number.invariant.spelt;
+  takes = λ v r h e f. took_more c.args.k c.args.reading v c.args.numbers.now c.loop-number.number-index c.loop-number.self c.take.new.self c.loop-number.taken.items c.take.new.taken.items (c.loop-number.invariant.takes v r h e f)
+      c.loop-number-test.true f c.in_ok-take.ensures.stands;
 }
 
 pub returns-clause-takes : goal.returns-clause-takes
