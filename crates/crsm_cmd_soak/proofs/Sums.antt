@@ -1,12 +1,12 @@
 -- Counts of more lines, and the greatest number with one more line.
-use Rattle.std.proofs.Common.{◌≡◌, ◌<◌, ◌+◌, ℕ, Bool, cond, List, [], ◌∷◌, ◌++◌, length, get_or, take, ap, sym, ◌∙◌, arith}
+use Rattle.std.proofs.Common.{◌≡◌, ◌<◌, ◌≤◌, ◌+◌, ◌*◌, ◌^◌, ℕ, Bool, cond, List, [], ◌∷◌, ◌++◌, length, get_or, take, ap, sym, ◌∙◌, arith}
 use Rattle.std.specs.Prelude.{fold, max}
 use Rattle.std.specs.List.{count_by}
 use Rattle.std.proofs.lemmas.List.{take_more}
 use Rattle.std.proofs.lemmas.List.Sums.{fold-append, sum_by-append}
 use Rattle.crsm_spec.specs.Types.{Line}
 use Rattle.crsm_cmd_soak.specs.Counting.{greatest, is_answer, is_drop, is_refusal, is_send, is_submission}
-use Rattle.crsm_cmd_soak.specs.Soak.{more}
+use Rattle.crsm_cmd_soak.specs.Soak.{IsBelow, more}
 use Rattle.crsm_cmd_soak.specs.declared.summary.Summary.{Summary}
 
 add_counts : (test : Line → Bool) (n : ℕ) (xs ys : List Line) → n + count_by test xs + count_by test ys ≡ n + count_by test (xs ++ ys)
@@ -50,6 +50,25 @@ none_more s =
   where
     same : (n : ℕ) → n + 0 ≡ n
     same n = omega arith
+
+-- ---- how great the counts are
+
+at_most : (a m n : ℕ) → m ≤ n → a ≤ m * 2 ^ 64 → a ≤ n * 2 ^ 64
+at_most a m n le h = omega (arith, le, h)
+
+pub below_most : (m n : ℕ) (s : Summary) → m ≤ n → IsBelow m s → IsBelow n s
+below_most m n s le h =
+    let steps = h.steps in
+    record {
+      steps = omega (arith, steps, le);
+      submitted = at_most _ m n le h.submitted;
+      answered = at_most _ m n le h.answered;
+      refused = at_most _ m n le h.refused;
+      dropped = at_most _ m n le h.dropped;
+      datagrams = at_most _ m n le h.datagrams;
+    }
+
+-- ---- the greatest number
 
 -- one line more
 pub greatest_more : (f : Line → ℕ) (lines : List Line) (i : ℕ) (line : Line) → i < length lines → line ≡ get_or lines i line → max (greatest f (take i lines)) (f line) ≡ greatest f (take (i + 1) lines)

@@ -1,5 +1,5 @@
 -- Generated runs, and their summary.
-use Rattle.std.specs.Prelude.{ℕ, ◌+◌, List, length, map}
+use Rattle.std.specs.Prelude.{◌<◌, ◌≤◌, ◌+◌, ◌*◌, ◌^◌, ℕ, List, length, map}
 use Rattle.std.specs.List.{count_by}
 use Rattle.crsm_spec.specs.Run.{seen}
 use Rattle.crsm_spec.specs.Types.{Line}
@@ -26,6 +26,16 @@ more s steps lines =
       dropped = s.dropped + count_by is_drop lines;
       datagrams = s.datagrams + count_by is_send lines;
     }
+
+-- The summary is of the boots and of fewer than n events, which have led to no more than n lists of fewer than 2 ^ 64
+-- lines.
+pub record IsBelow (n : ℕ) (s : Summary) : Type 0 where
+  pub steps : s.steps < n
+  pub submitted : s.submitted ≤ n * 2 ^ 64
+  pub answered : s.answered ≤ n * 2 ^ 64
+  pub refused : s.refused ≤ n * 2 ^ 64
+  pub dropped : s.dropped ≤ n * 2 ^ 64
+  pub datagrams : s.datagrams ≤ n * 2 ^ 64
 
 -- the lines that are seen in the run of a schedule
 unfoldable pub lines_of : Schedule → List Line

@@ -1,9 +1,10 @@
 //! The run of generated events.
 
-ghost use Rattle.std.specs.Prelude.{◌≡◌, ◌≤◌, ℕ, IfErr, IfOk, List, Ok, OnOk};
+ghost use Rattle.std.specs.Prelude.{◌≡◌, ◌≤◌, ◌+◌, ◌-◌, ◌^◌, ℕ, IfErr, IfOk, List, Ok, OnOk};
 ghost use Rattle.crsm_spec.specs.Acts.{Act};
 ghost use Rattle.crsm_spec.specs.World as on_paper;
 ghost use Rattle.crsm_cmd_soak.specs.Running.{Begins, CanGoOn, HasRun, StepsOn};
+ghost use Rattle.crsm_cmd_soak.specs.Soak.{IsBelow};
 ghost use Rattle.crsm_world.specs.Laws.{HasDone};
 ghost use Rattle.crsm_world.specs.World.{WorldStands};
 
@@ -45,11 +46,11 @@ impl SoakRun {
     fn begin(alloc: Global, number: u64, n: u32) -> Result<SoakRun, NoMemory>
         requires some { 1 ≤ n }
         requires most { n ≤ 15 }
-        ensures { IfOk result (λ run. Begins run number n) }
+        ensures begins { IfOk result (λ run. Begins run number n) }
+        ensures below { IfOk result (λ run. IsBelow 1 run.summary) }
     {
         let (mut world, lines) = World::new(alloc, n)?;
-        let mut summary = Summary::new();
-        summary.add(0, lines.as_slice())?;
+        let summary = Summary::new(lines.as_slice());
         world.take_back(lines);
         Ok(SoakRun {
             world,
@@ -60,21 +61,22 @@ impl SoakRun {
 
     /// Generates an event and executes it. The event is possible, so it is not refused.
     fn step(&mut self) -> Result<(), NoMemory>
-        requires { CanGoOn self.old }
-        ensures { (v : on_paper.World) (n : ℕ) (acts : List Act) → WorldStands self.old.world v → HasDone self.old.world n acts → OnOk result (StepsOn v n acts self.old self.new) }
+        requires goes_on { CanGoOn self.old }
+        requires room { IsBelow (2 ^ 64 - 1) self.old.summary }
+        ensures steps { (v : on_paper.World) (n : ℕ) (acts : List Act) → WorldStands self.old.world v → HasDone self.old.world n acts → OnOk result (StepsOn v n acts self.old self.new) }
+        ensures below { (n : ℕ) → IsBelow n self.old.summary → OnOk result (IsBelow (n + 1) self.new.summary) }
     {
         let event = self.generator.next(&self.world)?;
         let stepped = self.world.step(&event);
         discard(event);
         let lines = unless_refused(stepped)?;
-        self.summary.add(1, lines.as_slice())?;
+        self.summary.add(lines.as_slice());
         self.world.take_back(lines);
         Ok(())
     }
 }
 
-/// Runs up to `steps` generated events: it ends early if the world is full. `NoMemory` if memory runs out, or a count
-/// would exceed 64 bits.
+/// Runs up to `steps` generated events: it ends early if the world is full. `NoMemory` if memory runs out.
 pub(crate) fn run_all(alloc: Global, number: u64, n: u32, steps: u64) -> Result<SoakRun, NoMemory>
     requires some { 1 ≤ n }
     requires most { n ≤ 15 }

@@ -21,7 +21,7 @@ pub enum SoakEnd {
     Done,
     /// A prefix of the summary was written.
     WriteFault,
-    /// Memory ran out, or a count of the summary would exceed 64 bits.
+    /// Memory ran out.
     NoMemory,
 }
 
