@@ -38,5 +38,3 @@ exit "$fail"
 # crsm_mpreplica 1
 # crsm_mpworld 1
 # crsm_sim_machine 1
-# crsm_sim_network 1
-# crsm_world 1
