@@ -44,6 +44,7 @@ impl MpCore {
         ensures made { FitsInput input.now → WhereCore self.old (λ r. IfOk result (λ batch. Answers batch (outcome_of (steps.step r input.now from)))) }
         ensures stands { FitsInput input.now → WhereCore self.old (λ r. IfOk result (λ batch. MpCoreStands self.new (steps.step r input.now from).replica)) }
         ensures spent { IsErr result → IsSpent self.new }
+        ensures stays_spent { IsSpent self.old → IsErr result }
     {
         if self.is_spent {
             return Err(NoMemory);
