@@ -45,9 +45,10 @@ fn run_to_text(alloc: Global, number: u64, n: u32, steps: u64) -> Result<Bytes, 
 pub fn soak<O: Sink>(alloc: Global, number: u64, n: u32, steps: u64, output: &mut O) -> SoakEnd
     requires some { 1 ≤ n }
     requires most { n ≤ 15 }
-    // The bytes written: all of the text, or a prefix.
+    // The bytes written: all of the text, or a prefix; none if memory ran out.
     ensures done { result ≡ SoakEnd.Done → Puts (O.written output.old) (O.written output.new) (soak_text (drawn number n steps)) }
     ensures prefix { PutsPrefix (O.written output.old) (O.written output.new) (soak_text (drawn number n steps)) }
+    ensures unwritten { result ≡ SoakEnd.NoMemory → O.written output.new ≡ O.written output.old }
 
     // A fault is returned only if it was counted.
     ensures write_fault { result ≡ SoakEnd.WriteFault → Rose (O.faults output.old) (O.faults output.new) }
