@@ -27,7 +27,7 @@ abbrev the_pair : Option (List ℕ × List ℕ) → List ℕ × List ℕ
 the_pair None = ([], [])
 the_pair (Some pair) = pair
 
-same_pair : (a b c d : List ℕ) → (let one : Option (List ℕ × List ℕ) = Some (a, b) in one ≡ Some (c, d)) → (a ≡ c) × (b ≡ d)
+pub same_pair : (a b c d : List ℕ) → (let one : Option (List ℕ × List ℕ) = Some (a, b) in one ≡ Some (c, d)) → (a ≡ c) × (b ≡ d)
 same_pair a b c d is = (ap (λ (o : Option (List ℕ × List ℕ)). (the_pair o).0) is, ap (λ (o : Option (List ℕ × List ℕ)). (the_pair o).1) is)
 
 pub stands_among : (d : List ℕ) (ds : List (List ℕ)) (entries : List ℕ) → entries ≡ entries_of ds → StandsIn d entries → Contains ds d
@@ -69,7 +69,7 @@ module _ (P Q : Datagrams) (to : ℕ) (packet entries : List ℕ) (is_bundle : p
 
 -- ---- what waits
 
-same_entries : (a b : List ℕ) → (17 ∷ 0 ∷ a) ≡ (17 ∷ 0 ∷ b) → a ≡ b
+pub same_entries : (a b : List ℕ) → (17 ∷ 0 ∷ a) ≡ (17 ∷ 0 ∷ b) → a ≡ b
 same_entries a b is = ap (drop 2) is
 
 pub filled_waits : (to : ℕ) (waiting : List Packet) (packet : List ℕ) → IsFilled to waiting packet → NoMore (Among waiting) (standing_in to packet)

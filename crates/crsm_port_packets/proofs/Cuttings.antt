@@ -1,15 +1,18 @@
 -- What is put together was cut.
 use Rattle.std.proofs.Common.{◌≡◌, ◌∙◌, ◌+◌, ◌*◌, ◌<◌, ◌≤◌, ◌++◌, ◌^◌, ◌-◌, min, ℕ, zero, suc, List, [], ◌∷◌, length, take, drop, refl, sym, ap, ap₂, subst, arith, inl, inr, length-drop, take-append-drop, append_assoc}
 use Rattle.std.specs.List.{concat}
-use Rattle.std.specs.Prelude.{slice_index_or}
+use Rattle.std.specs.Prelude.{Err, IsOk, Ok, OnErr, OnOk, Result, slice_index_or}
 use Rattle.std.proofs.lemmas.List.{drop-drop, drop_min, take_min}
 use Rattle.std.proofs.Math.Seq.{take-length}
 use Rattle.crsm_base.proofs.Numbers.{u64_parses}
 use Rattle.crsm_base.specs.Reading.{u64_at}
 use Rattle.crsm_base.specs.Spelling.{u64_bytes}
+use Rattle.crsm_base.specs.declared.memory.Failed.{Failed}
+use Rattle.crsm_port.specs.Meaning.{Meaning, Sends}
 use Rattle.crsm_port.specs.Passing.{Datagrams, NoMore, OneMore, either}
+use Rattle.crsm_port_faults.specs.Counts.{Rose}
 use Rattle.crsm_port_packets.specs.Carrying.{Fragments, put_together}
-use Rattle.crsm_port_packets.specs.Cutting.{AreApart, AreOfCuts, CutDatagram, IsFragmentOf, IsOfCut, cut_in, fragments_of}
+use Rattle.crsm_port_packets.specs.Cutting.{AreApart, AreOfCuts, CutDatagram, IsFragmentOf, IsOfCut, SendsFragments, cut_in, fragment_at, fragments_of}
 
 -- the pieces of a list of bytes, from the first one on
 abbrev ArePieces : List ℕ → List (List ℕ) → Type 0
@@ -80,3 +83,30 @@ piece bytes n start len starts is =
     let all : length (drop start bytes) ≡ length bytes - start = length-drop start bytes in
     let whole : take (length bytes - start) (drop start bytes) ≡ drop start bytes = ap (λ (k : ℕ). take k (drop start bytes)) (sym all) ∙ take-length (drop start bytes) in
     ap (take len) whole ∙ ap (λ (k : ℕ). take k (drop start bytes)) (is ∙ ap (λ (k : ℕ). min 1220 k) (sym all)) ∙ take_min 1220 (drop start bytes) ∙ ap (take 1220) from
+
+-- ---- the fragments that a port is given, up to one
+
+ok_gives : {T E P : Type 0} (r : Result T E) → IsOk r → OnOk r P → P
+ok_gives (Ok x) ok is = is
+ok_gives (Err e) ok is = cc
+
+pub was_ok : (r : Result (Unit {0}) Failed) (u : Unit {0}) → r ≡ Ok u → IsOk r
+was_ok r u is = subst (λ (x : Result (Unit {0}) Failed). IsOk x) (sym is) refl
+
+pub err_of : (r : Result (Unit {0}) Failed) (P : Type 0) → P → OnErr r P
+err_of (Ok u) P is = tt
+err_of (Err e) P is = is
+
+-- none of them was lost
+no_loss : (to : ℕ) (bytes : List ℕ) (number count index : ℕ) (old new : Meaning) → SendsFragments to bytes number count index old new → new.losses ≡ old.losses
+no_loss to bytes number count zero old new same = ap (λ (m : Meaning). m.losses) same
+no_loss to bytes number count (suc index) old new (between, result, before, ok, one) = ok_gives result ok one.no_loss ∙ no_loss to bytes number count index old between before
+
+pub loss_behind : (to : ℕ) (bytes : List ℕ) (number count index : ℕ) (old between new : Meaning) → SendsFragments to bytes number count index old between → Rose between.losses new.losses → Rose old.losses new.losses
+loss_behind to bytes number count index old between new before rose = subst (λ (n : ℕ). Rose n new.losses) (no_loss to bytes number count index old between before) rose
+
+pub fragment_sent : (to : ℕ) (bytes packet : List ℕ) (number count index : ℕ) (old between new : Meaning) (result : Result (Unit {0}) Failed) → packet ≡ fragment_at bytes number index count → IsOk result
+    → SendsFragments to bytes number count index old between → Sends to packet between new result → SendsFragments to bytes number count (index + 1) old new
+fragment_sent to bytes packet number count index old between new result is ok before one =
+    let next : index + 1 ≡ suc index = omega arith in
+    subst (λ (n : ℕ). SendsFragments to bytes number count n old new) (sym next) (between, result, before, ok, subst (λ (p : List ℕ). Sends to p between new result) is one)

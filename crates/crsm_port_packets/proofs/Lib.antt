@@ -1,5 +1,8 @@
 mod Bundles
+mod Counted
 mod Cuttings
+mod Goings
+mod Greetings
 mod Keepings
 mod Openings
 mod Passings

@@ -1,5 +1,8 @@
 -- Datagrams that went out as fragments.
-use Rattle.std.specs.Prelude.{◌≡◌, ◌*◌, ◌<◌, ◌≤◌, ℕ, List, length, take, drop, Contains}
+use Rattle.std.specs.Prelude.{◌≡◌, ◌*◌, ◌<◌, ◌≤◌, ◌++◌, ℕ, zero, suc, List, [], ◌∷◌, length, take, drop, Contains, Result, IsOk}
+use Rattle.crsm_base.specs.Spelling.{u64_bytes}
+use Rattle.crsm_base.specs.declared.memory.Failed.{Failed}
+use Rattle.crsm_port.specs.Meaning.{Meaning, Sends}
 use Rattle.crsm_port.specs.Passing.{Datagrams}
 use Rattle.crsm_port_packets.specs.Carrying.{Fragments}
 use Rattle.crsm_port_packets.specs.Format.{FragmentFields, IsFragment}
@@ -46,3 +49,19 @@ AreOfCuts cuts fragments = (address : ℕ) (f : FragmentFields) → fragments ad
 -- the datagrams that were cut
 abbrev pub cut_in : List CutDatagram → Datagrams
 cut_in cuts address datagram = (c : CutDatagram) × Contains cuts c × (c.from ≡ address) × (c.datagram ≡ datagram)
+
+-- ---- the fragments of a datagram, one after another
+
+-- the fragment at an index of a datagram, of so many under a number
+abbrev pub fragment_at : List ℕ → (number index count : ℕ) → List ℕ
+fragment_at datagram number index count = (17 ∷ 1 ∷ u64_bytes number ++ index ∷ count ∷ []) ++ take 1220 (drop (index * 1220) datagram)
+
+-- the port below is given the fragments of a datagram up to an index, and sends each
+abbrev pub SendsFragments : ℕ → List ℕ → (number count index : ℕ) → Meaning → Meaning → Type 0
+SendsFragments to datagram number count zero old new = new ≡ old
+SendsFragments to datagram number count (suc index) old new =
+    (between : Meaning) × (result : Result (Unit {0}) Failed) × SendsFragments to datagram number count index old between × IsOk result × Sends to (fragment_at datagram number index count) between new result
+
+-- it sends all fragments of a datagram
+abbrev pub SendsCut : ℕ → List ℕ → ℕ → Meaning → Meaning → Type 0
+SendsCut to datagram number old new = (count : ℕ) × (length datagram ≤ count * 1220) × (count ≤ 7) × SendsFragments to datagram number count count old new

@@ -1,7 +1,10 @@
 pub mod Carrying
 pub mod Cutting
 pub mod Format
+pub mod Given
 pub mod Held
 pub mod Kept
+pub mod Peers
+pub mod Sending
 pub mod Sent
 pub mod Waiting

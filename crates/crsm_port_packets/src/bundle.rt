@@ -1,65 +1,69 @@
 //! Packets of several datagrams, from the list of those that wait.
 
-ghost use Rattle.std.specs.Prelude.{◌≡◌, ◌⊎◌, ◌≤◌, ◌++◌, ◌∷◌, [], drop, length, false, Some, IfSome, OnOk};
+ghost use Rattle.std.specs.Prelude.{◌≡◌, ◌⊎◌, ◌+◌, ◌≤◌, ◌++◌, ◌∷◌, [], drop, length, false, true, Some, IfSome, vec_capacity, vec_len};
 ghost use Rattle.crsm_port.specs.Passing.{NoMore, either};
 ghost use Rattle.crsm_port.specs.Sent.{packets_of};
 ghost use Rattle.crsm_port_packets.specs.Carrying.{carried};
 ghost use Rattle.crsm_port_packets.specs.Format.{entry, entry_at, is_packed};
+ghost use Rattle.crsm_port_packets.specs.Given.{LetsGo, PacketGoes};
 ghost use Rattle.crsm_port_packets.specs.Sent.{HasOneMore, IsBundle, sent_with, standing_in};
 
 use crate::format::{BUNDLE_HEAD, LENGTH_BYTES, MOST_BYTES, first_entry, is_packed};
-use crsm_base::NoMemory;
 use crsm_port::{Port, SentPackets};
 
 /// Returns whether a packet has room for one more datagram of this length.
-fn has_room(packet: &[u8], len: usize) -> bool {
+fn has_room(packet: &[u8], len: usize) -> bool
+    ensures { result ≡ true → length packet.now + (4 + len) ≤ 1232 }
+{
     packet.len() <= MOST_BYTES
         && len <= MOST_BYTES
         && packet.len() + BUNDLE_HEAD.len() + LENGTH_BYTES + len <= MOST_BYTES
 }
 
-/// Writes the bytes before the datagrams of a bundle, if the packet is empty. `NoMemory` if memory runs out.
-fn begin(packet: &mut Vec<u8>) -> Result<(), NoMemory>
-    ensures first { packet.old.items ≡ [] → OnOk result (packet.new.items ≡ 17 ∷ 0 ∷ []) }
-    ensures more { (packet.old.items ≡ [] → ⊥) → OnOk result (packet.new.items ≡ packet.old.items) }
+/// Appends bytes, for which there is memory.
+pub(crate) fn append(packet: &mut Vec<u8>, bytes: &[u8])
+    requires { vec_len packet.old + length bytes.now ≤ vec_capacity packet.old }
+    ensures items { packet.new.items ≡ packet.old.items ++ bytes.now }
+    ensures len { vec_len packet.new ≡ vec_len packet.old + length bytes.now }
+    ensures capacity { vec_capacity packet.old ≤ vec_capacity packet.new }
+{
+    let _ = packet.extend_from_slice(bytes);
+}
+
+/// Writes the bytes before the datagrams of a bundle, if the packet is empty. There is memory for them.
+fn begin(packet: &mut Vec<u8>)
+    requires { vec_len packet.old + 2 ≤ vec_capacity packet.old }
+    ensures first { packet.old.items ≡ [] → packet.new.items ≡ 17 ∷ 0 ∷ [] }
+    ensures more { (packet.old.items ≡ [] → ⊥) → packet.new.items ≡ packet.old.items }
+    ensures len { vec_len packet.new ≤ vec_len packet.old + 2 }
+    ensures capacity { vec_capacity packet.old ≤ vec_capacity packet.new }
 {
     if packet.is_empty() {
-        packet.extend_from_slice(&BUNDLE_HEAD)?;
+        append(packet, &BUNDLE_HEAD);
     }
-    Ok(())
 }
 
-/// Appends a datagram of at most 1,232 bytes, behind its length. `NoMemory` if memory runs out.
-fn append_entry(packet: &mut Vec<u8>, bytes: &[u8]) -> Result<(), NoMemory>
-    requires { length bytes.now ≤ 1232 }
-    ensures { OnOk result (packet.new.items ≡ packet.old.items ++ entry bytes.now) }
+/// Appends a datagram of at most 1,232 bytes, behind its length. There is memory for it.
+fn append_entry(packet: &mut Vec<u8>, bytes: &[u8])
+    requires short { length bytes.now ≤ 1232 }
+    requires room { vec_len packet.old + (2 + length bytes.now) ≤ vec_capacity packet.old }
+    ensures items { packet.new.items ≡ packet.old.items ++ entry bytes.now }
+    ensures capacity { vec_capacity packet.old ≤ vec_capacity packet.new }
 {
     let len = [(bytes.len() / 256) as u8, (bytes.len() % 256) as u8];
-    packet.extend_from_slice(&len)?;
-    packet.extend_from_slice(bytes)?;
-    Ok(())
+    append(packet, &len);
+    append(packet, bytes);
 }
 
-/// Appends a datagram of at most 1,232 bytes to a packet, which is empty or a bundle. `NoMemory` if memory runs out.
-fn append(packet: &mut Vec<u8>, bytes: &[u8]) -> Result<(), NoMemory>
-    requires { length bytes.now ≤ 1232 }
-    ensures { OnOk result (HasOneMore bytes.now packet.old.items packet.new.items) }
-{
-    begin(packet)?;
-    append_entry(packet, bytes)?;
-    Ok(())
-}
-
-/// Appends a datagram of at most 1,232 bytes to a packet, which is empty or a bundle. If memory runs out the packet is
-/// lost.
+/// Appends a datagram of at most 1,232 bytes to a packet, which is empty or a bundle. There is memory for it.
 fn take_in(packet: &mut Vec<u8>, bytes: &[u8])
-    requires { length bytes.now ≤ 1232 }
-    ensures { (packet.new.items ≡ []) ⊎ HasOneMore bytes.now packet.old.items packet.new.items }
+    requires short { length bytes.now ≤ 1232 }
+    requires room { vec_len packet.old + (4 + length bytes.now) ≤ vec_capacity packet.old }
+    ensures one_more { HasOneMore bytes.now packet.old.items packet.new.items }
+    ensures capacity { vec_capacity packet.old ≤ vec_capacity packet.new }
 {
-    match append(packet, bytes) {
-        Ok(()) => {}
-        Err(NoMemory) => packet.clear(),
-    }
+    begin(packet);
+    append_entry(packet, bytes);
 }
 
 /// Returns the datagram of a bundle that has only one, so that it can go as it is.
@@ -78,6 +82,7 @@ fn send_packet<P: Port>(to: u64, packet: &[u8], port: &mut P) -> bool
     requires { IsBundle packet.now }
     ensures gives { NoMore (P.gives port.old) (P.gives port.new) }
     ensures sends { NoMore (either (carried (P.may_send port.old)) (standing_in to packet.now)) (carried (P.may_send port.new)) }
+    ensures goes { PacketGoes to packet.now (P.meaning port.old) (P.meaning port.new) }
 {
     if packet.is_empty() {
         return false;
@@ -99,7 +104,9 @@ fn make_room<P: Port>(to: u64, len: usize, packet: &mut Vec<u8>, port: &mut P) -
     requires { IsBundle packet.old.items }
     ensures gives { NoMore (P.gives port.old) (P.gives port.new) }
     ensures sends { NoMore (either (carried (P.may_send port.old)) (standing_in to packet.old.items)) (carried (P.may_send port.new)) }
-    ensures packet { (packet.new.items ≡ packet.old.items) ⊎ (packet.new.items ≡ []) }
+    ensures kept { ((packet.new.items ≡ packet.old.items) × (port.new ≡ port.old)) ⊎ ((packet.new.items ≡ []) × PacketGoes to packet.old.items (P.meaning port.old) (P.meaning port.new)) }
+    ensures room { len ≤ 1232 → vec_len packet.new + (4 + len) ≤ 1236 }
+    ensures capacity { vec_capacity packet.new ≡ vec_capacity packet.old }
 {
     if has_room(packet.as_slice(), len) {
         return false;
@@ -110,16 +117,18 @@ fn make_room<P: Port>(to: u64, len: usize, packet: &mut Vec<u8>, port: &mut P) -
 }
 
 /// Sends the datagrams that wait for an address in packets of at most 1,232 bytes, and returns whether one of these went
-/// with the byte 17. A datagram that goes alone goes as it is. The buffer is for a packet; if memory runs out some
-/// datagrams are lost, as any may be.
+/// with the byte 17. A datagram that goes alone goes as it is. The buffer is for a packet and has memory for it.
 pub(crate) fn send_waiting<P: Port>(
     waiting: &SentPackets,
     to: u64,
     packet: &mut Vec<u8>,
     port: &mut P,
 ) -> bool
+    requires { 1236 ≤ vec_capacity packet.old }
     ensures gives { NoMore (P.gives port.old) (P.gives port.new) }
     ensures sends { NoMore (sent_with (P.may_send port.old) (packets_of waiting.now)) (carried (P.may_send port.new)) }
+    ensures goes { LetsGo (to ∷ []) (packets_of waiting.now) (P.meaning port.old) (P.meaning port.new) }
+    ensures capacity { 1236 ≤ vec_capacity packet.new }
 {
     let mut has_packed = false;
     packet.clear();

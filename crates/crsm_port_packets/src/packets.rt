@@ -1,19 +1,23 @@
 //! `PacketsPort`: packets of a size that networks carry whole.
 
-ghost use Rattle.std.specs.Prelude.{◌≡◌, List, [], false, take, IfOk, IfSome, length};
-ghost use Rattle.crsm_port.specs.Meaning.{IsWithin};
-ghost use Rattle.crsm_port.specs.Passing.{IsOf, NoMore, OneMore, Only, either};
+ghost use Rattle.std.specs.Prelude.{◌≡◌, ◌≤◌, ◌⊎◌, List, [], map, false, true, take, IfOk, IfSome, OnErr, OnOk, length, vec_capacity};
+ghost use Rattle.crsm_clock.specs.Readings.{Gives};
+ghost use Rattle.crsm_port.specs.Meaning.{CountsEmpty, IsWithin, Packet, Reserves, Sends};
+ghost use Rattle.crsm_port.specs.Passing.{IsOf, NoMore, OneMore, Only, PassesOn, Rests, either};
 ghost use Rattle.crsm_port.specs.Sent.{packets_of};
 ghost use Rattle.crsm_port.specs.Unknown.{unknown};
+ghost use Rattle.crsm_port_faults.specs.Counts.{Rose};
 ghost use Rattle.crsm_port_packets.specs.Carrying.{carried, put_together};
 ghost use Rattle.crsm_port_packets.specs.Cutting.{AreApart, AreOfCuts, CutDatagram, cut_in, fragments_from};
 ghost use Rattle.crsm_port_packets.specs.Format.{is_packed};
+ghost use Rattle.crsm_port_packets.specs.Given.{AllGreet, LetsGo, LetsGoAndGreets, MayLetGo, SendsAll};
 ghost use Rattle.crsm_port_packets.specs.Held.{Opens, fragments_with, unpacked};
+ghost use Rattle.crsm_port_packets.specs.Peers.{SamePeers, Speaks, addresses_of, unheard};
 ghost use Rattle.crsm_port_packets.specs.Sent.{sent_with};
 
 use crate::bundle::send_waiting;
 use crate::cutting::send_fragments;
-use crate::format::{MOST_BYTES, is_packed};
+use crate::format::{BUNDLE_HEAD, LENGTH_BYTES, MOST_BYTES, is_packed};
 use crate::peer::Peer;
 use crate::received::Received;
 use crate::unpacking::hand_up;
@@ -25,6 +29,9 @@ use std::alloc::Global;
 
 /// Maximum length of a datagram in bytes, with the mark of a cluster.
 const MOST_RECEIVED: usize = 8_201;
+
+/// Maximum length of a packet before it is known whether it goes as a bundle or as its one datagram.
+const MOST_BUFFERED: usize = MOST_BYTES + BUNDLE_HEAD.len() + LENGTH_BYTES;
 
 /// Maximum number of datagrams that wait for others to their address.
 const MOST_WAITING: usize = 4_096;
@@ -59,6 +66,7 @@ pub struct PacketsPort<P, C> {
     faults: u64,
     losses: u64,
     empties: u64,
+    ghost roomy: { 1236 ≤ vec_capacity packet },
 }
 
 impl<P: Drop, C: Drop> PacketsPort<P, C> {
@@ -69,7 +77,9 @@ impl<P: Drop, C: Drop> PacketsPort<P, C> {
         inner: P,
         clock: C,
         peers: &[u64],
-    ) -> Result<PacketsPort<P, C>, NoMemory> {
+    ) -> Result<PacketsPort<P, C>, NoMemory>
+        ensures { IfOk result (λ p. (p.port ≡ inner) × (p.clock ≡ clock) × (p.peers.items ≡ map unheard peers.now) × (packets_of p.waiting ≡ [])) }
+    {
         let mut known = Vec::with_capacity(alloc, peers.len())?;
         for address in peers {
             known.push(Peer::new(*address))?;
@@ -82,7 +92,7 @@ impl<P: Drop, C: Drop> PacketsPort<P, C> {
             number: 0,
             room: Vec::from_elem(alloc, 0u8, MOST_RECEIVED)?,
             waiting: SentPackets::new(alloc),
-            packet: Vec::with_capacity(alloc, MOST_BYTES)?,
+            packet: Vec::with_capacity(alloc, MOST_BUFFERED)?,
             received: Received::new(alloc)?,
             is_soon: false,
             faults: 0,
@@ -126,8 +136,12 @@ fn send_to_each<P: Port>(
     packet: &mut Vec<u8>,
     port: &mut P,
 )
+    requires { 1236 ≤ vec_capacity packet.old }
     ensures gives { NoMore (P.gives port.old) (P.gives port.new) }
     ensures sends { NoMore (sent_with (P.may_send port.old) (packets_of waiting.now)) (carried (P.may_send port.new)) }
+    ensures goes { LetsGo (addresses_of peers.old) (packets_of waiting.now) (P.meaning port.old) (P.meaning port.new) }
+    ensures peers { SamePeers peers.old peers.new }
+    ensures capacity { 1236 ≤ vec_capacity packet.new }
 {
     for peer in peers {
         if send_waiting(waiting, peer.address, packet, port) {
@@ -140,6 +154,8 @@ fn send_to_each<P: Port>(
 fn greet_each<P: Port>(peers: &mut [Peer], now: u64, port: &mut P)
     ensures gives { NoMore (P.gives port.old) (P.gives port.new) }
     ensures sends { NoMore (carried (P.may_send port.old)) (carried (P.may_send port.new)) }
+    ensures goes { (greetings : List Packet) × AllGreet (addresses_of peers.old) greetings × SendsAll greetings (P.meaning port.old) (P.meaning port.new) }
+    ensures peers { SamePeers peers.old peers.new }
 {
     for peer in peers {
         peer.greet(now, port);
@@ -147,13 +163,17 @@ fn greet_each<P: Port>(peers: &mut [Peer], now: u64, port: &mut P)
 }
 
 impl<P: Port, C: Clock> PacketsPort<P, C> {
+    ghost use Rattle.crsm_port_packets.specs.Sending.{IsKept, IsLostBelow, IsPassedOn, IsRefused, SendsCutFrom, sender_of};
+
     /// Sends the datagrams that wait.
     fn let_go(&mut self)
         ensures gives { NoMore (P.gives self.old.port) (P.gives self.new.port) }
         ensures sends { NoMore (sent_with (P.may_send self.old.port) (packets_of self.old.waiting)) (sent_with (P.may_send self.new.port) (packets_of self.new.waiting)) }
         ensures received { self.new.received ≡ self.old.received }
-        ensures same { self.new ≡ record self.old { port = self.new.port; peers = self.new.peers; waiting = self.new.waiting; packet = self.new.packet } }
+        ensures same { self.new ≡ record self.old { port = self.new.port; peers = self.new.peers; waiting = self.new.waiting; packet = self.new.packet; roomy = self.new.roomy } }
         ensures none { packets_of self.new.waiting ≡ [] }
+        ensures goes { LetsGo (addresses_of self.old.peers.items) (packets_of self.old.waiting) (P.meaning self.old.port) (P.meaning self.new.port) }
+        ensures peers { SamePeers self.old.peers.items self.new.peers.items }
     {
         if self.waiting.len() == 0 {
             return;
@@ -238,6 +258,22 @@ impl<P: Port, C: Clock> PacketsPort<P, C> {
         }
     }
 
+    /// Counts a receive that gave nothing, or failed.
+    fn count(&mut self, got: &Result<Recv, Failed>)
+        ensures later { self.old.faults ≤ self.new.faults }
+        ensures failed { OnErr got.now (Rose self.old.faults self.new.faults) }
+        ensures no_fault { OnOk got.now (self.new.faults ≡ self.old.faults) }
+        ensures empties { IfOk got.now (CountsEmpty self.old.empties self.new.empties) }
+        ensures not_empty { OnErr got.now (self.new.empties ≡ self.old.empties) }
+        ensures same { self.new ≡ record self.old { faults = self.new.faults; empties = self.new.empties } }
+    {
+        match got {
+            Ok(Recv::Datagram { .. }) => {}
+            Ok(Recv::Nothing) => raise(&mut self.empties),
+            Err(Failed) => raise(&mut self.faults),
+        }
+    }
+
     /// Opens a received packet, and returns its datagram if it is one. A bundle is taken apart by the next receives. A
     /// packet of several datagrams or of a part of one is taken from peers alone.
     fn open(&mut self, from: u64, len: usize, buf: &mut [u8]) -> Option<Recv>
@@ -257,7 +293,9 @@ impl<P: Port, C: Clock> PacketsPort<P, C> {
     }
 
     /// Returns whether the receiver reads packets with the byte 17.
-    fn speaks(&self, to: u64) -> bool {
+    fn speaks(&self, to: u64) -> bool
+        ensures { result ≡ true → Speaks to self.entry.now.now self.entry.now.peers.items }
+    {
         self.peers
             .iter()
             .any(|peer| peer.address == to && peer.speaks(self.now))
@@ -268,7 +306,11 @@ impl<P: Port, C: Clock> PacketsPort<P, C> {
         ensures gives { NoMore (P.gives self.old.port) (P.gives self.new.port) }
         ensures sends { OneMore to bytes.now (sent_with (P.may_send self.old.port) (packets_of self.old.waiting)) (sent_with (P.may_send self.new.port) (packets_of self.new.waiting)) }
         ensures received { self.new.received ≡ self.old.received }
-        ensures same { self.new ≡ record self.old { port = self.new.port; peers = self.new.peers; number = self.new.number; waiting = self.new.waiting; packet = self.new.packet } }
+        ensures same { self.new ≡ record self.old { port = self.new.port; peers = self.new.peers; number = self.new.number; waiting = self.new.waiting; packet = self.new.packet; roomy = self.new.roomy } }
+        ensures goes { OnOk result (IsPassedOn to bytes.now (sender_of (P.meaning self.old.port) self.old) (sender_of (P.meaning self.new.port) self.new)) }
+        ensures refused { OnErr result (IsRefused bytes.now (sender_of (P.meaning self.old.port) self.old) (sender_of (P.meaning self.new.port) self.new)) }
+        ensures peers { SamePeers self.old.peers.items self.new.peers.items }
+        ensures numbers { self.old.number ≤ self.new.number }
     {
         if is_packed(bytes) {
             return Err(Failed);
@@ -285,9 +327,12 @@ impl<P: Port, C: Clock> PacketsPort<P, C> {
     /// Lets a datagram wait for others to its address. If memory runs out it is sent at once.
     fn keep(&mut self, to: u64, bytes: &[u8]) -> Result<(), Failed>
         requires { is_packed bytes.now ≡ false }
+        ensures goes { OnOk result (IsKept to bytes.now (sender_of (P.meaning self.old.port) self.old) (sender_of (P.meaning self.new.port) self.new)) }
+        ensures refused { OnErr result (IsLostBelow (sender_of (P.meaning self.old.port) self.old) (sender_of (P.meaning self.new.port) self.new)) }
+        ensures peers { SamePeers self.old.peers.items self.new.peers.items }
         ensures gives { NoMore (P.gives self.old.port) (P.gives self.new.port) }
         ensures sends { OneMore to bytes.now (sent_with (P.may_send self.old.port) (packets_of self.old.waiting)) (sent_with (P.may_send self.new.port) (packets_of self.new.waiting)) }
-        ensures same { self.new ≡ record self.old { port = self.new.port; peers = self.new.peers; waiting = self.new.waiting; packet = self.new.packet } }
+        ensures same { self.new ≡ record self.old { port = self.new.port; peers = self.new.peers; waiting = self.new.waiting; packet = self.new.packet; roomy = self.new.roomy } }
     {
         self.make_room();
         match self.waiting.add(to, bytes) {
@@ -298,9 +343,11 @@ impl<P: Port, C: Clock> PacketsPort<P, C> {
 
     /// Sends the datagrams that wait, if no more may.
     fn make_room(&mut self)
+        ensures goes { MayLetGo (addresses_of self.old.peers.items) (packets_of self.old.waiting) (packets_of self.new.waiting) (P.meaning self.old.port) (P.meaning self.new.port) }
+        ensures peers { SamePeers self.old.peers.items self.new.peers.items }
         ensures gives { NoMore (P.gives self.old.port) (P.gives self.new.port) }
         ensures sends { NoMore (sent_with (P.may_send self.old.port) (packets_of self.old.waiting)) (sent_with (P.may_send self.new.port) (packets_of self.new.waiting)) }
-        ensures same { self.new ≡ record self.old { port = self.new.port; peers = self.new.peers; waiting = self.new.waiting; packet = self.new.packet } }
+        ensures same { self.new ≡ record self.old { port = self.new.port; peers = self.new.peers; waiting = self.new.waiting; packet = self.new.packet; roomy = self.new.roomy } }
     {
         if self.waiting.len() >= MOST_WAITING {
             self.let_go();
@@ -310,10 +357,13 @@ impl<P: Port, C: Clock> PacketsPort<P, C> {
     /// Sends a datagram as fragments, under a number that no other has. `Failed` if one of them was lost, memory runs
     /// out, or there are no more numbers.
     fn send_fragments(&mut self, to: u64, bytes: &[u8]) -> Result<(), Failed>
+        ensures goes { OnOk result (SendsCutFrom to bytes.now (sender_of (P.meaning self.old.port) self.old) (sender_of (P.meaning self.new.port) self.new)) }
+        ensures refused { OnErr result (IsRefused bytes.now (sender_of (P.meaning self.old.port) self.old) (sender_of (P.meaning self.new.port) self.new)) }
+        ensures numbers { self.old.number ≤ self.new.number }
         ensures gives { NoMore (P.gives self.old.port) (P.gives self.new.port) }
         ensures sends { NoMore (either (P.may_send self.old.port) (fragments_from to bytes.now self.old.number self.new.number)) (P.may_send self.new.port) }
         ensures carries { NoMore (carried (P.may_send self.old.port)) (carried (P.may_send self.new.port)) }
-        ensures same { self.new ≡ record self.old { port = self.new.port; number = self.new.number; packet = self.new.packet } }
+        ensures same { self.new ≡ record self.old { port = self.new.port; number = self.new.number; packet = self.new.packet; roomy = self.new.roomy } }
     {
         let number = self.number.max(self.now);
         self.number = number.checked_add(1).ok_or(Failed)?;
@@ -322,6 +372,8 @@ impl<P: Port, C: Clock> PacketsPort<P, C> {
 }
 
 impl<P: Port, C: Clock> Port for PacketsPort<P, C> {
+    ghost use Rattle.crsm_port_packets.specs.Sending.{IsPassedOn, IsRefused, sender_of};
+
     ghost meaning = { λ p. unknown p.faults p.losses p.empties };
 
     ghost gives = { λ p. unpacked (P.gives p.port) p.received };
@@ -332,20 +384,19 @@ impl<P: Port, C: Clock> Port for PacketsPort<P, C> {
         self.let_go();
         let got = self.next(buf);
         self.is_soon = false;
-        match got {
-            Ok(Recv::Datagram { from, len }) => Ok(Recv::Datagram { from, len }),
-            Ok(Recv::Nothing) => {
-                raise(&mut self.empties);
-                Ok(Recv::Nothing)
-            }
-            Err(Failed) => {
-                raise(&mut self.faults);
-                Err(Failed)
-            }
-        }
+        self.count(&got);
+        got
     }
 
-    fn send(&mut self, to: u64, bytes: &[u8]) -> Result<(), Failed> {
+    fn send(&mut self, to: u64, bytes: &[u8]) -> Result<(), Failed>
+        ensures sends { Sends to bytes.now (unknown self.old.faults self.old.losses self.old.empties) (unknown self.new.faults self.new.losses self.new.empties) result }
+        ensures passes_on { PassesOn (unpacked (P.gives self.old.port) self.old.received) (unpacked (P.gives self.new.port) self.new.received) (sent_with (P.may_send self.old.port) (packets_of self.old.waiting)) (sent_with (P.may_send self.new.port) (packets_of self.new.waiting)) to bytes.now }
+        ensures goes { OnOk result (IsPassedOn to bytes.now (sender_of (P.meaning self.old.port) self.old) (sender_of (P.meaning self.new.port) self.new)) }
+        ensures refused { OnErr result (IsRefused bytes.now (sender_of (P.meaning self.old.port) self.old) (sender_of (P.meaning self.new.port) self.new)) }
+        ensures peers { SamePeers self.old.peers.items self.new.peers.items }
+        ensures numbers { self.old.number ≤ self.new.number }
+        ensures stays { self.new ≡ record self.old { port = self.new.port; peers = self.new.peers; number = self.new.number; waiting = self.new.waiting; packet = self.new.packet; roomy = self.new.roomy; losses = self.new.losses } }
+    {
         match self.pass_on(to, bytes) {
             Ok(()) => Ok(()),
             Err(Failed) => {
@@ -355,20 +406,41 @@ impl<P: Port, C: Clock> Port for PacketsPort<P, C> {
         }
     }
 
-    fn reserve(&mut self, sends: u64, bytes: u64) -> Result<(), NoMemory> {
+    fn reserve(&mut self, sends: u64, bytes: u64) -> Result<(), NoMemory>
+        ensures reserves { Reserves sends bytes (unknown self.old.faults self.old.losses self.old.empties) (unknown self.new.faults self.new.losses self.new.empties) result }
+        ensures rests { Rests (unpacked (P.gives self.old.port) self.old.received) (unpacked (P.gives self.new.port) self.new.received) (sent_with (P.may_send self.old.port) (packets_of self.old.waiting)) (sent_with (P.may_send self.new.port) (packets_of self.new.waiting)) }
+        ensures below { Reserves sends bytes (P.meaning self.old.port) (P.meaning self.new.port) result }
+        ensures reading { Gives (C.readings self.old.clock) (C.readings self.new.clock) self.new.now }
+        ensures stays { self.new ≡ record self.old { port = self.new.port; clock = self.new.clock; now = self.new.now } }
+    {
         self.now = self.clock.now();
         self.port.reserve(sends, bytes)
     }
 
-    fn poll_soon(&mut self) {
+    fn poll_soon(&mut self)
+        ensures same { unknown self.new.faults self.new.losses self.new.empties ≡ unknown self.old.faults self.old.losses self.old.empties }
+        ensures rests { Rests (unpacked (P.gives self.old.port) self.old.received) (unpacked (P.gives self.new.port) self.new.received) (sent_with (P.may_send self.old.port) (packets_of self.old.waiting)) (sent_with (P.may_send self.new.port) (packets_of self.new.waiting)) }
+        ensures soon { self.new ≡ record self.old { is_soon = true } }
+    {
         self.is_soon = true;
     }
 
-    fn wait_long(&mut self) {
+    fn wait_long(&mut self)
+        ensures same { unknown self.new.faults self.new.losses self.new.empties ≡ unknown self.old.faults self.old.losses self.old.empties }
+        ensures rests { Rests (unpacked (P.gives self.old.port) self.old.received) (unpacked (P.gives self.new.port) self.new.received) (sent_with (P.may_send self.old.port) (packets_of self.old.waiting)) (sent_with (P.may_send self.new.port) (packets_of self.new.waiting)) }
+        ensures stays { self.new ≡ record self.old { port = self.new.port } }
+    {
         self.port.wait_long();
     }
 
-    fn flush(&mut self) {
+    fn flush(&mut self)
+        ensures same { unknown self.new.faults self.new.losses self.new.empties ≡ unknown self.old.faults self.old.losses self.old.empties }
+        ensures rests { Rests (unpacked (P.gives self.old.port) self.old.received) (unpacked (P.gives self.new.port) self.new.received) (sent_with (P.may_send self.old.port) (packets_of self.old.waiting)) (sent_with (P.may_send self.new.port) (packets_of self.new.waiting)) }
+        ensures goes { LetsGoAndGreets (addresses_of self.old.peers.items) (packets_of self.old.waiting) (P.meaning self.old.port) (P.meaning self.new.port) }
+        ensures none { packets_of self.new.waiting ≡ [] }
+        ensures peers { SamePeers self.old.peers.items self.new.peers.items }
+        ensures stays { self.new ≡ record self.old { port = self.new.port; peers = self.new.peers; waiting = self.new.waiting; packet = self.new.packet; roomy = self.new.roomy } }
+    {
         self.let_go();
         greet_each(self.peers.as_mut_slice(), self.now, &mut self.port);
         self.port.flush();

@@ -2,8 +2,8 @@ use Rattle.std.proofs.Common.{◌≡◌, ◌-◌, ◌*◌, length, min, drop, ar
 use Rattle.crsm_port_packets.proofs.Cuttings.{piece}
 use Rattle.crsm_port_packets.proofs.cutting.piece_at.Goals as goal
 
-pub returns : goal.returns
-returns c =
+pub returns-clause-bytes : goal.returns-clause-bytes
+returns-clause-bytes c =
     let bytes = c.args.bytes.now in
     let start = c.min-start.result in
     let len : c.min.result ≡ min 1220 (length bytes - start) = omega (arith, c.min.ensures, length-drop start bytes, length-take (length bytes - start) (drop start bytes)) in
