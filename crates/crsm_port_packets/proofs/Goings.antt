@@ -1,7 +1,7 @@
 -- All that waits for an address goes to the port below.
-use Rattle.std.proofs.Common.{◌≡◌, ◌∙◌, ◌+◌, ◌<◌, ◌≤◌, ◌++◌, ℕ, zero, suc, false, List, [], ◌∷◌, Option, Some, None, Result, length, map, take, drop, refl, sym, ap, subst, inl, inr, arith, append-nil}
-use Rattle.std.specs.Prelude.{◌⊎◌, ◌==◌, All, Contains, slice_get, slice_index_or}
-use Rattle.std.proofs.lemmas.List.Elements.{All-append, All-contains, All-nil, All-weaker, Contains-append_cases, Contains-append_left, Contains-append_right, Contains-push}
+use Rattle.std.proofs.Common.{◌≡◌, ◌∙◌, ◌+◌, ◌≤◌, ◌++◌, ℕ, zero, suc, false, List, [], ◌∷◌, Option, Some, None, Result, length, take, drop, refl, sym, ap, subst, inl, inr, arith}
+use Rattle.std.specs.Prelude.{◌⊎◌, ◌==◌, All, Contains, slice_get}
+use Rattle.std.proofs.lemmas.List.Elements.{All-append, All-nil, All-weaker, Contains-append_cases, Contains-append_left, Contains-append_right, Contains-push}
 use Rattle.crsm_base.specs.declared.memory.Failed.{Failed}
 use Rattle.crsm_port.specs.Meaning.{Meaning, Packet, Sends}
 use Rattle.crsm_port.specs.Passing.{Among, NoMore}
@@ -9,7 +9,7 @@ use Rattle.crsm_port_packets.specs.Carrying.{carried}
 use Rattle.crsm_port_packets.specs.Format.{StandsIn, entries_of, entry, entry_at, first, is_packed, later}
 use Rattle.crsm_port_packets.specs.Given.{Holds, IsOfPacket, IsOfWaiting, LetsGo, PacketGoes, SendsAll}
 use Rattle.crsm_port_packets.specs.Sent.{HasOneMore, IsBundle, IsFilled, standing_in}
-use Rattle.crsm_port_packets.proofs.Bundles.{entries_more, entry_first, filled_waits, same_entries, same_pair}
+use Rattle.crsm_port_packets.proofs.Bundles.{entries_more, entry_first, filled_waits, same_pair}
 use Rattle.crsm_port_packets.proofs.Passings.{carries_less}
 
 -- ---- packets that a port is given in turn

@@ -1,13 +1,13 @@
 -- The peers stay the same, one call after another.
 use Rattle.std.proofs.Common.{◌≡◌, ◌∙◌, ◌+◌, ◌<◌, ◌≤◌, ◌++◌, ℕ, zero, suc, List, [], ◌∷◌, None, length, map, set, take, refl, sym, ap, ap₂, subst, arith, inl, inr}
-use Rattle.std.proofs.lemmas.List.Elements.{All-nil, All-push, Contains-get_or}
-use Rattle.std.specs.Prelude.{◌⊎◌, All, Contains, Result, slice_index_or}
+use Rattle.std.proofs.lemmas.List.Elements.{All-push, Contains-get_or}
+use Rattle.std.specs.Prelude.{◌⊎◌, Contains, Result, slice_index_or}
 use Rattle.crsm_base.specs.declared.memory.Failed.{Failed}
 use Rattle.crsm_port.specs.Meaning.{Meaning, Packet, Sends}
 use Rattle.crsm_port_packets.specs.Given.{AllGreet, LetsGo, SendsAll}
 use Rattle.crsm_port_packets.specs.Peers.{SamePeers, addresses_of}
 use Rattle.crsm_port_packets.specs.declared.peer.Peer.{Peer}
-use Rattle.crsm_port_packets.proofs.Goings.{let_go_both, none_let_go, sends_both}
+use Rattle.crsm_port_packets.proofs.Goings.{let_go_both, sends_both}
 
 -- a peer to which a packet went
 pub same_set : (start peers : List Peer) (i : ℕ) (d p : Peer) → i < length peers → (let was : Peer = record (slice_index_or peers i d) { greeted_at = None } in (record p { greeted_at = None }) ≡ was) → SamePeers start peers → SamePeers start (set peers i p)

@@ -1,3 +1,4 @@
+mod Askings
 mod Bundles
 mod Counted
 mod Cuttings

@@ -5,6 +5,7 @@ pub mod Given
 pub mod Held
 pub mod Kept
 pub mod Peers
+pub mod Receiving
 pub mod Sending
 pub mod Sent
 pub mod Waiting

@@ -1,9 +1,9 @@
 //! `PacketsPort`: packets of a size that networks carry whole.
 
-ghost use Rattle.std.specs.Prelude.{◌≡◌, ◌≤◌, ◌⊎◌, List, [], map, false, true, take, IfOk, IfSome, OnErr, OnOk, length, vec_capacity};
+ghost use Rattle.std.specs.Prelude.{◌≡◌, ◌≤◌, ◌⊎◌, List, [], map, None, false, true, take, IfOk, IfSome, OnErr, OnOk, length, vec_capacity};
 ghost use Rattle.crsm_clock.specs.Readings.{Gives};
-ghost use Rattle.crsm_port.specs.Meaning.{CountsEmpty, IsWithin, Packet, Reserves, Sends};
-ghost use Rattle.crsm_port.specs.Passing.{IsOf, NoMore, OneMore, Only, PassesOn, Rests, either};
+ghost use Rattle.crsm_port.specs.Meaning.{CountsEmpty, IsWithin, Meaning, Packet, Receives, Reserves, Sends};
+ghost use Rattle.crsm_port.specs.Passing.{HandsUp, IsOf, NoMore, OneMore, Only, PassesOn, Rests, either};
 ghost use Rattle.crsm_port.specs.Sent.{packets_of};
 ghost use Rattle.crsm_port.specs.Unknown.{unknown};
 ghost use Rattle.crsm_port_faults.specs.Counts.{Rose};
@@ -13,6 +13,7 @@ ghost use Rattle.crsm_port_packets.specs.Format.{is_packed};
 ghost use Rattle.crsm_port_packets.specs.Given.{AllGreet, LetsGo, LetsGoAndGreets, MayLetGo, SendsAll};
 ghost use Rattle.crsm_port_packets.specs.Held.{Opens, fragments_with, unpacked};
 ghost use Rattle.crsm_port_packets.specs.Peers.{SamePeers, Speaks, addresses_of, unheard};
+ghost use Rattle.crsm_port_packets.specs.Receiving.{Asks, AsksUntil, IsDatagram};
 ghost use Rattle.crsm_port_packets.specs.Sent.{sent_with};
 
 use crate::bundle::send_waiting;
@@ -112,10 +113,11 @@ impl<P: Port, C> PacketsPort<P, C> {
 }
 
 /// Returns the packet of this length in the buffer.
-fn front(room: &[u8], len: usize) -> Option<&[u8]>
-    ensures { IfSome result (λ packet. packet.now ≡ take len room.now) }
+fn front(room: &[u8], len: usize) -> &[u8]
+    requires { len ≤ length room.now }
+    ensures { result.now ≡ take len room.now }
 {
-    room.get(..len)
+    &room[..len]
 }
 
 /// Returns the peer with this address, or `None`.
@@ -197,6 +199,7 @@ impl<P: Port, C: Clock> PacketsPort<P, C> {
         ensures sends { NoMore (P.may_send self.old.port) (P.may_send self.new.port) }
         ensures waiting { self.new.waiting ≡ self.old.waiting }
         ensures same { self.new ≡ record self.old { port = self.new.port; peers = self.new.peers; room = self.new.room; received = self.new.received } }
+        ensures asks { AsksUntil (P.meaning self.old.port) (P.meaning self.new.port) result }
     {
         for _ in 0..MOST_EMPTY {
             if let Some(got) = self.next_or_none(buf)? {
@@ -214,6 +217,7 @@ impl<P: Port, C: Clock> PacketsPort<P, C> {
         ensures rest { NoMore (unpacked (P.gives self.old.port) self.old.received) (unpacked (P.gives self.new.port) self.new.received) }
         ensures sends { NoMore (P.may_send self.old.port) (P.may_send self.new.port) }
         ensures same { self.new ≡ record self.old { port = self.new.port; peers = self.new.peers; room = self.new.room; received = self.new.received } }
+        ensures asks { Asks (P.meaning self.old.port) (P.meaning self.new.port) result }
     {
         match self.received.next(buf) {
             Some(got) => Ok(Some(got)),
@@ -228,6 +232,7 @@ impl<P: Port, C: Clock> PacketsPort<P, C> {
         ensures rest { NoMore (unpacked (P.gives self.old.port) self.old.received) (unpacked (P.gives self.new.port) self.new.received) }
         ensures sends { NoMore (P.may_send self.old.port) (P.may_send self.new.port) }
         ensures same { self.new ≡ record self.old { port = self.new.port; peers = self.new.peers; room = self.new.room; received = self.new.received } }
+        ensures asks { Asks (P.meaning self.old.port) (P.meaning self.new.port) result }
     {
         match self.recv_below()? {
             Recv::Nothing => Ok(Some(Recv::Nothing)),
@@ -242,6 +247,8 @@ impl<P: Port, C: Clock> PacketsPort<P, C> {
         ensures sends { NoMore (P.may_send self.old.port) (P.may_send self.new.port) }
         ensures received { self.new.received ≡ self.old.received }
         ensures same { self.new ≡ record self.old { port = self.new.port; room = self.new.room } }
+        ensures receives { Receives (P.meaning self.old.port) (P.meaning self.new.port) self.old.room.items self.new.room.items result }
+        ensures within { IfOk result (IsWithin (length self.new.room.items)) }
     {
         self.prepare();
         self.port.recv(&mut self.room)
@@ -252,6 +259,7 @@ impl<P: Port, C: Clock> PacketsPort<P, C> {
         ensures rest { NoMore (P.gives self.old.port) (P.gives self.new.port) }
         ensures sends { NoMore (P.may_send self.old.port) (P.may_send self.new.port) }
         ensures same { self.new ≡ record self.old { port = self.new.port } }
+        ensures meaning { P.meaning self.new.port ≡ P.meaning self.old.port }
     {
         if self.is_soon {
             self.port.poll_soon();
@@ -277,13 +285,16 @@ impl<P: Port, C: Clock> PacketsPort<P, C> {
     /// Opens a received packet, and returns its datagram if it is one. A bundle is taken apart by the next receives. A
     /// packet of several datagrams or of a part of one is taken from peers alone.
     fn open(&mut self, from: u64, len: usize, buf: &mut [u8]) -> Option<Recv>
+        requires { len ≤ length self.old.room.items }
+        ensures packed { result ≡ None → is_packed (take len self.old.room.items) ≡ true }
+        ensures some { IfSome result IsDatagram }
         ensures within { IfSome result (IsWithin (length buf.old)) }
         ensures given { IfSome result (IsOf (unpacked (Only from (take len self.old.room.items)) self.old.received) buf.new) }
         ensures opens { Opens from (take len self.old.room.items) self.old.received self.new.received }
         ensures port { self.new.port ≡ self.old.port }
         ensures same { self.new ≡ record self.old { peers = self.new.peers; received = self.new.received } }
     {
-        let packet = front(self.room.as_slice(), len)?;
+        let packet = front(self.room.as_slice(), len);
         if !is_packed(packet) {
             return Some(hand_up(from, packet, buf));
         }
@@ -380,7 +391,12 @@ impl<P: Port, C: Clock> Port for PacketsPort<P, C> {
 
     ghost may_send = { λ p. sent_with (P.may_send p.port) (packets_of p.waiting) };
 
-    fn recv(&mut self, buf: &mut [u8]) -> Result<Recv, Failed> {
+    fn recv(&mut self, buf: &mut [u8]) -> Result<Recv, Failed>
+        ensures receives { Receives (unknown self.old.faults self.old.losses self.old.empties) (unknown self.new.faults self.new.losses self.new.empties) buf.old buf.new result }
+        ensures hands_up { HandsUp (unpacked (P.gives self.old.port) self.old.received) (unpacked (P.gives self.new.port) self.new.received) (sent_with (P.may_send self.old.port) (packets_of self.old.waiting)) (sent_with (P.may_send self.new.port) (packets_of self.new.waiting)) buf.new result }
+        ensures goes { (between : Meaning) × LetsGo (addresses_of self.old.peers.items) (packets_of self.old.waiting) (P.meaning self.old.port) between × AsksUntil between (P.meaning self.new.port) result }
+        ensures none { packets_of self.new.waiting ≡ [] }
+    {
         self.let_go();
         let got = self.next(buf);
         self.is_soon = false;

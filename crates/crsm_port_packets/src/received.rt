@@ -5,6 +5,7 @@ ghost use Rattle.crsm_port.specs.Meaning.{IsWithin};
 ghost use Rattle.crsm_port.specs.Passing.{Cut, IsOf, NoMore, Only};
 ghost use Rattle.crsm_port_packets.specs.Carrying.{put_together};
 ghost use Rattle.crsm_port_packets.specs.Held.{Opens, fragments_with};
+ghost use Rattle.crsm_port_packets.specs.Receiving.{IsDatagram};
 ghost use Rattle.crsm_port_packets.specs.Waiting.{waiting_in};
 
 use crate::format::{MOST_FRAGMENTS, MOST_IN_FRAGMENT, PacketKind, kind_of};
@@ -37,6 +38,7 @@ impl Received {
     pub(crate) fn next(&mut self, buf: &mut [u8]) -> Option<Recv>
         ensures within { IfSome result (IsWithin (length buf.old)) }
         ensures waited { IfSome result (IsOf (Cut (waiting_in self.old.unpacking)) buf.new) }
+        ensures some { IfSome result IsDatagram }
         ensures rest { NoMore (waiting_in self.old.unpacking) (waiting_in self.new.unpacking) }
         ensures same { self.new.fragments ≡ self.old.fragments }
     {
@@ -48,6 +50,7 @@ impl Received {
     /// may be.
     pub(crate) fn take(&mut self, from: u64, packet: &[u8], buf: &mut [u8]) -> Option<Recv>
         ensures within { IfSome result (IsWithin (length buf.old)) }
+        ensures some { IfSome result IsDatagram }
         ensures whole { IfSome result (IsOf (Cut (put_together (fragments_with (Only from packet.now) self.old))) buf.new) }
         ensures opens { Opens from packet.now self.old self.new }
     {

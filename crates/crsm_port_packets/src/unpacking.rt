@@ -4,6 +4,7 @@ ghost use Rattle.std.specs.Prelude.{◌≡◌, [], IfSome, drop, length};
 ghost use Rattle.crsm_port.specs.Meaning.{IsWithin};
 ghost use Rattle.crsm_port.specs.Passing.{Cut, IsOf, NoMore, Only};
 ghost use Rattle.crsm_port_packets.specs.Format.{StandsIn};
+ghost use Rattle.crsm_port_packets.specs.Receiving.{IsDatagram};
 ghost use Rattle.crsm_port_packets.specs.Waiting.{waiting_in};
 
 use crate::format::{LENGTH_BYTES, first_entry};
@@ -46,6 +47,7 @@ impl Unpacking {
     pub(crate) fn take(&mut self, buf: &mut [u8]) -> Option<Recv>
         ensures within { IfSome result (IsWithin (length buf.old)) }
         ensures waited { IfSome result (IsOf (Cut (waiting_in self.old)) buf.new) }
+        ensures some { IfSome result IsDatagram }
         ensures rest { NoMore (waiting_in self.old) (waiting_in self.new) }
     {
         let rest = rest_of(self.entries.as_slice(), self.next)?;
@@ -65,6 +67,7 @@ fn rest_of(entries: &[u8], next: usize) -> Option<&[u8]>
 /// Copies a datagram to the buffer, as far as it has room, and returns it as received.
 pub(crate) fn hand_up(from: u64, bytes: &[u8], buf: &mut [u8]) -> Recv
     ensures within { IsWithin (length buf.old) result }
+    ensures some { IsDatagram result }
     ensures cut { IsOf (Cut (Only from bytes.now)) buf.new result }
 {
     let len = bytes.len().min(buf.len());

@@ -1,4 +1,4 @@
-use Rattle.std.proofs.Common.{None, ap, arith, length, refl}
+use Rattle.std.proofs.Common.{None, ap, arith, refl}
 use Rattle.crsm_port_packets.specs.declared.peer.Peer.{Peer}
 use Rattle.crsm_port_packets.proofs.Greetings.{greets_more, port_goes, same_set}
 use Rattle.crsm_port_packets.proofs.packets.greet_each.Goals as goal

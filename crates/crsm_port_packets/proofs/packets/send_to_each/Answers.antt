@@ -1,4 +1,4 @@
-use Rattle.std.proofs.Common.{None, ap, arith, inl, inr, length, refl}
+use Rattle.std.proofs.Common.{None, ap, arith, inl, inr, refl}
 use Rattle.crsm_port.specs.Sent.{packets_of}
 use Rattle.crsm_port_packets.proofs.Goings.{none_let_go}
 use Rattle.crsm_port_packets.proofs.Greetings.{all_peers, peer_more, same_set}

@@ -1,4 +1,6 @@
+use Rattle.std.proofs.Common.{refl}
 use Rattle.crsm_port_packets.specs.Held.{unpacked}
+use Rattle.crsm_port_packets.proofs.Askings.{bundle_asks}
 use Rattle.crsm_port_packets.proofs.Openings.{is_next, ok_may_be_of, waits_less}
 use Rattle.crsm_port_packets.proofs.Passings.{no_more_than}
 use Rattle.crsm_port_packets.proofs.packets.PacketsPort.next_or_none.Goals as goal
@@ -24,3 +26,6 @@ returns-in-None-clause-rest g c =
     let new = c.take_packet.new.self in
     no_more_than (unpacked P old) (unpacked P c.next.new.self) (unpacked (g.P.Port.gives new.port) new.received)
     (waits_less P P old c.next.new.self (λ a d is. is) c.next.ensures.rest c.next.ensures.same) c.take_packet.ensures.rest
+
+pub returns-in-Some-clause-asks : goal.returns-in-Some-clause-asks
+returns-in-Some-clause-asks g c = bundle_asks (g.P.Port.meaning c.args.self.now.port) (g.P.Port.meaning c.args.self.now.port) c.in-Some.got refl c.in-Some.ensures.some

@@ -8,6 +8,6 @@ use Rattle.crsm_port_packets.proofs.packets.PacketsPort.open.Goals as goal
 pub returns-clause-given : goal.returns-clause-given
 returns-clause-given g c =
     let old = c.args.self.now.received in
-    let packet : c.in_ok-packet.packet.now ≡ take c.args.len c.args.self.now.room.items = c.in_ok-packet.ensures ∙ ap (take c.args.len) c.as_slice.ensures.value in
+    let packet : c.front-packet.result.now ≡ take c.args.len c.args.self.now.room.items = c.front-packet.ensures ∙ ap (take c.args.len) c.as_slice.ensures.value in
     subst (λ (p : List ℕ). IfSome c.take.result (IsOf (unpacked (Only c.args.from p) old) c.take.new.buf)) packet
-    (may_be_whole c.args.from c.in_ok-packet.packet.now old c.take.new.buf c.take.result c.take.ensures.whole)
+    (may_be_whole c.args.from c.front-packet.result.now old c.take.new.buf c.take.result c.take.ensures.whole)

@@ -1,8 +1,11 @@
-use Rattle.std.proofs.Common.{take, subst}
+use Rattle.std.proofs.Common.{Ok, ap, subst, sym, take}
 use Rattle.std.specs.Prelude.{IfSome}
 use Rattle.crsm_port.specs.Passing.{IsOf, NoMore, Only}
+use Rattle.crsm_port.specs.Meaning.{Meaning}
 use Rattle.crsm_port_packets.specs.Held.{unpacked}
+use Rattle.crsm_port_packets.specs.Receiving.{Asks}
 use Rattle.crsm_port_packets.specs.declared.received.Received.{Received}
+use Rattle.crsm_port_packets.proofs.Askings.{packet_asks}
 use Rattle.crsm_port_packets.proofs.Openings.{may_be_of, opened, unpacked_from}
 use Rattle.crsm_port_packets.proofs.Passings.{unpacks_less}
 use Rattle.crsm_port_packets.proofs.packets.PacketsPort.take_packet.Goals as goal
@@ -36,3 +39,14 @@ returns-in-Datagram-clause-rest g c =
     let came : P from packet = rw c.in-Datagram.is at c.in_ok-recv_below.ensures.given in
     let more : NoMore P (g.P.Port.gives c.open.new.self.port) = rw c.open.ensures.port c.recv_below.ensures.rest in
     subst (λ (r : Received). NoMore (unpacked P r) (unpacked Q new.received)) c.recv_below.ensures.received (opened P Q mid.received new.received more from packet came c.open.ensures.opens)
+
+pub returns-in-Datagram-clause-asks : goal.returns-in-Datagram-clause-asks
+returns-in-Datagram-clause-asks g c =
+    let old = c.args.self.now in
+    let mid = c.recv_below.new.self in
+    let came = rw c.in-Datagram.is at c.in_ok-recv_below.ensures.receives in
+    subst (λ (m : Meaning). Asks (g.P.Port.meaning old.port) m (Ok c.open.result)) (sym (ap g.P.Port.meaning c.open.ensures.port))
+    (packet_asks (g.P.Port.meaning old.port) (g.P.Port.meaning mid.port) old.room.items mid.room.items c.in-Datagram.from c.in-Datagram.len c.open.result came c.open.ensures.packed c.open.ensures.some)
+
+pub returns-in-Nothing-clause-asks : goal.returns-in-Nothing-clause-asks
+returns-in-Nothing-clause-asks g c = (c.args.self.now.room.items, c.recv_below.new.self.room.items, rw c.in-Nothing.is at c.in_ok-recv_below.ensures.receives)
