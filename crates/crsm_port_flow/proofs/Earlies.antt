@@ -100,7 +100,7 @@ counts_same room old new others sizes same counts = subst (λ (xs : List (Option
 
 -- ---- the frame that is expected next
 
-get_set : (ls : List Link) (i : ℕ) (x y : Link) → slice_get ls i ≡ Some x → slice_get (set ls i y) i ≡ Some y
+pub get_set : (ls : List Link) (i : ℕ) (x y : Link) → slice_get ls i ≡ Some x → slice_get (set ls i y) i ≡ Some y
 get_set [] i x y is = absurd (none-some x is)
 get_set (l ∷ ls) zero x y is = refl
 get_set (l ∷ ls) (suc i) x y is = get_set ls i x y is

@@ -5,7 +5,7 @@ use Rattle.std.proofs.lemmas.Option.{none-some}
 use Rattle.std.specs.Prelude.{◌⊎◌, Contains, IfOk, IfSome, IsSome, slice_index_or}
 use Rattle.crsm_base.specs.declared.memory.Failed.{Failed}
 use Rattle.crsm_port.specs.Meaning.{IsWithin, Packet}
-use Rattle.crsm_port.specs.Passing.{Cut, Datagrams, IsOf, NoMore, Only}
+use Rattle.crsm_port.specs.Passing.{Cut, Datagrams, IsOf, NoMore, Only, either}
 use Rattle.crsm_port.specs.declared.port.Recv.{Recv}
 use Rattle.crsm_port.specs.declared.port.Recv.TheVariants.{Nothing, Datagram}
 use Rattle.crsm_port_flow.specs.Early.{OneMoreWaits}
@@ -312,12 +312,12 @@ dropped_rest now i j peers (gone, is, _) operate a b has = elim has [
 
 -- ---- a request that waits
 
-pub request_kept : (from : ℕ) (bytes : List ℕ) (r : Waiting) (c e : Clients) → (let p : Packet = record { address = from; bytes = bytes } in packet_in r ≡ p) → e.operate ≡ c.operate → e.requests.waiting.items ≡ c.requests.waiting.items ++ r ∷ []
-    → KeepsOnly from bytes (of_clients c) (of_clients e)
-request_kept from bytes r c e is operate more a b has = elim has [
-  | inl waits ↦ elim (waiting_more from bytes r c.requests.waiting.items e.requests.waiting.items is more a b waits) [
+pub request_kept : (from : ℕ) (bytes : List ℕ) (r : Waiting) (waiting waiting_now : List Waiting) (operate operate_now : Option Operate) → (let p : Packet = record { address = from; bytes = bytes } in packet_in r ≡ p) → operate_now ≡ operate → waiting_now ≡ waiting ++ r ∷ []
+    → KeepsOnly from bytes (either (waiting_in waiting) (operate_in operate)) (either (waiting_in waiting_now) (operate_in operate_now))
+request_kept from bytes r waiting waiting_now operate operate_now is same more a b has = elim has [
+  | inl waits ↦ elim (waiting_more from bytes r waiting waiting_now is more a b waits) [
     | inl only ↦ inl only
     | inr before ↦ inr (inl before)
   ]
-  | inr latest ↦ inr (inr (subst (λ (o : Option Operate). operate_in o a b) operate latest))
+  | inr latest ↦ inr (inr (subst (λ (o : Option Operate). operate_in o a b) same latest))
 ]

@@ -1,6 +1,8 @@
 mod Earlies
 mod Flows
+mod Hearings
 mod Keepings
+mod Pasts
 mod Sendings
 mod Turns
 mod Losing

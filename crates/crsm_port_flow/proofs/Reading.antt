@@ -185,7 +185,7 @@ module _ {P C : Type 0} (M : P → Meaning) (p a q : FlowPort P C) where
   pub came_in : (from len : ℕ) → (let asked : FlowPort P C = record p { port = a.port; clock = a.clock; room = a.room; has_failed = a.has_failed } in a ≡ asked)
       → (let taken : FlowPort P C = record a { hearing = q.hearing; quiet = q.quiet; inbound = q.inbound; outbound = q.outbound; lost = q.lost } in q ≡ taken)
       → length a.room.items ≡ length p.room.items → Receives (M p.port) (M a.port) p.room.items a.room.items (Ok (Datagram from len))
-      → TakesIn from (take len a.room.items) a.now a.hearing.peers.items a.inbound q.inbound a.lost q.lost → AreKnownBy a.hearing.me from (take len a.room.items) a.hearing.peers.items q.hearing.peers.items → q.hearing.me ≡ a.hearing.me
+      → TakesIn from (take len a.room.items) a.now a.hearing.peers.items a.inbound q.inbound a.lost q.lost → AreKnownBy a.hearing.me from (take len a.room.items) a.now a.hearing.peers.items q.hearing.peers.items → q.hearing.me ≡ a.hearing.me
       → TakesOne p.now (record { address = from; bytes = take len a.room.items }) (state_of (M p.port) p) (state_of (M q.port) q)
   came_in from len same then size receives taken known me = record {
     before = p.room.items;
@@ -195,7 +195,7 @@ module _ {P C : Type 0} (M : P → Meaning) (p a q : FlowPort P C) where
     receives = subst (λ (x : P). Receives (M p.port) (M x) p.room.items a.room.items (Ok (Datagram from len))) (sym (ap (λ (x : FlowPort P C). x.port) then)) receives;
     bytes = refl;
     taken = subst (λ (x : FlowPort P C). TakesIn from (take len a.room.items) x.now x.hearing.peers.items x.inbound q.inbound x.lost q.lost) same taken;
-    known = subst (λ (x : FlowPort P C). AreKnownBy x.hearing.me from (take len a.room.items) x.hearing.peers.items q.hearing.peers.items) same known;
+    known = subst (λ (x : FlowPort P C). AreKnownBy x.hearing.me from (take len a.room.items) x.now x.hearing.peers.items q.hearing.peers.items) same known;
     me = me ∙ ap (λ (x : FlowPort P C). x.hearing.me) same;
   }
 
@@ -217,7 +217,7 @@ module _ {P C : Type 0} (M : P → Meaning) (p a : FlowPort P C) (c : Clients) (
   -- it hands up a datagram, which is taken in
   pub asks_came : (q : FlowPort P C) (from len : ℕ) → (let taken : FlowPort P C = record a { hearing = q.hearing; quiet = q.quiet; inbound = q.inbound; outbound = q.outbound; lost = q.lost } in q ≡ taken)
       → Receives (M p.port) (M a.port) p.room.items a.room.items (Ok (Datagram from len)) → TakesIn from (take len a.room.items) a.now a.hearing.peers.items a.inbound q.inbound a.lost q.lost
-      → AreKnownBy a.hearing.me from (take len a.room.items) a.hearing.peers.items q.hearing.peers.items → q.hearing.me ≡ a.hearing.me
+      → AreKnownBy a.hearing.me from (take len a.room.items) a.now a.hearing.peers.items q.hearing.peers.items → q.hearing.me ≡ a.hearing.me
       → (d : Packet) × TakesAll p.now (d ∷ []) (state_of (M p.port) p) (state_of (M q.port) q)
   asks_came q from len then receives taken known me =
       let d : Packet = record { address = from; bytes = take len a.room.items } in

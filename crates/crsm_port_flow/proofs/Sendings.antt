@@ -1,12 +1,11 @@
 -- What a port may still send it was given.
-use Rattle.std.proofs.Common.{◌≡◌, ◌∙◌, ◌++◌, ◌+◌, ◌<◌, ◌≤◌, ℕ, zero, suc, List, [], ◌∷◌, Result, length, map, min, set, take, refl, sym, ap, subst, inl, inr, arith}
-use Rattle.std.proofs.lemmas.List.Elements.{All-push}
-use Rattle.std.specs.Prelude.{slice_index_or}
+use Rattle.std.proofs.Common.{◌≡◌, ◌∙◌, ◌++◌, ◌+◌, ◌<◌, ◌≤◌, ℕ, zero, suc, Bool, true, false, List, [], ◌∷◌, Result, length, map, min, set, take, refl, sym, ap, subst, inl, inr, arith}
+use Rattle.std.specs.Prelude.{if◌then◌else◌, slice_index_or}
 use Rattle.crsm_base.specs.declared.memory.Failed.{Failed}
 use Rattle.crsm_port.specs.Meaning.{Meaning, Packet, Sends}
 use Rattle.crsm_port.specs.Passing.{Datagrams, NoMore, OneMore, either}
 use Rattle.crsm_port_flow.proofs.Keepings.{contains_map, push_cases, set_cases}
-use Rattle.crsm_port_flow.specs.Acks.{AllSay, SaysHearing, held_in, packet_of, sent_with}
+use Rattle.crsm_port_flow.specs.Acks.{AtPlaceOf, SaysHearing, StayHeld, held_in, packet_of, sent_with}
 use Rattle.crsm_port_flow.specs.Waits.{SendsAll}
 use Rattle.crsm_port_flow.specs.declared.acks.Ack.{Ack}
 
@@ -100,10 +99,6 @@ take_to_end (suc n) (x ∷ xs) = let e : min (suc n) (length (x ∷ xs)) ≡ suc
 pub take_within : (n k most : ℕ) (xs : List ℕ) → length xs ≡ most → k ≡ min n most → take k xs ≡ take n xs
 take_within n k most xs long is = ap (λ (i : ℕ). take i xs) (is ∙ ap (min n) (sym long)) ∙ take_to_end n xs
 
--- one datagram more says whom a node hears
-pub says_one_more : (said : List Packet) (p : Packet) → AllSay said → SaysHearing p.address p.bytes → AllSay (said ++ p ∷ [])
-says_one_more said p all one = All-push (λ (q : Packet). SaysHearing q.address q.bytes) said p all one
-
 -- ---- acknowledgements that are held
 
 -- one that is put in the place of another, or added
@@ -123,6 +118,38 @@ pub holds_replaced : (acks : List Ack) (i : ℕ) (a : Ack) (to : ℕ) (bytes : L
 holds_replaced [] i a to bytes lt same = absurd (omega (arith, lt))
 holds_replaced (x ∷ acks) zero a to bytes lt same = (0, omega arith, same)
 holds_replaced (x ∷ acks) (suc i) a to bytes lt same = let w = holds_replaced acks i a to bytes (omega (arith, lt)) same in (suc w.0, omega (arith, w.1), w.2)
+
+-- the others are held still
+pub stay_replaced : (acks : List Ack) (i : ℕ) (a : Ack) → i < length acks → AtPlaceOf a i acks → StayHeld a.to (take a.len a.bytes) acks (set acks i a)
+stay_replaced [] i a lt at address d has = inl has
+stay_replaced (x ∷ acks) zero a lt at address d (zero, within, is) = inr (sym (ap (λ (p : Packet). p.address) is) ∙ at x, (zero, omega arith, refl))
+stay_replaced (x ∷ acks) zero a lt at address d (suc k, within, is) = inl (suc k, within, is)
+stay_replaced (x ∷ acks) (suc i) a lt at address d (zero, within, is) = inl (zero, omega arith, is)
+stay_replaced (x ∷ acks) (suc i) a lt at address d (suc k, within, is) = elim (stay_replaced acks i a (omega (arith, lt)) at address d (k, omega (arith, within), is)) [
+  | inl w ↦ inl (suc w.0, omega (arith, w.1), w.2)
+  | inr w ↦ inr (w.0, (suc w.1.0, omega (arith, w.1.1), w.1.2))
+]
+
+pub stay_added : (acks : List Ack) (a : Ack) (to : ℕ) (bytes : List ℕ) → StayHeld to bytes acks (acks ++ a ∷ [])
+stay_added [] a to bytes address d (k, lt, is) = absurd (omega (arith, lt))
+stay_added (x ∷ acks) a to bytes address d (zero, lt, is) = inl (zero, omega arith, is)
+stay_added (x ∷ acks) a to bytes address d (suc k, lt, is) = elim (stay_added acks a to bytes address d (k, omega (arith, lt), is)) [
+  | inl w ↦ inl (suc w.0, omega (arith, w.1), w.2)
+  | inr w ↦ inr (w.0, (suc w.1.0, omega (arith, w.1.1), w.1.2))
+]
+
+pub stay_pushed : (acks new : List Ack) (a : Ack) (to : ℕ) (bytes : List ℕ) (ok : Bool) → new ≡ (if ok then acks ++ a ∷ [] else acks) → StayHeld to bytes acks new
+stay_pushed acks new a to bytes true is = subst (λ (xs : List Ack). StayHeld to bytes acks xs) (sym is) (stay_added acks a to bytes)
+stay_pushed acks new a to bytes false is = λ address d has. inl (subst (λ (xs : List Ack). held_in xs address d) (sym is) has)
+
+pub stay_as : (old new : List Ack) (a : Ack) (to : ℕ) (bytes : List ℕ) → (let p : Packet = record { address = to; bytes = bytes } in packet_of a ≡ p) → StayHeld a.to (take a.len a.bytes) old new → StayHeld to bytes old new
+stay_as old new a to bytes same stay address d has = elim (stay address d has) [
+  | inl still ↦ inl still
+  | inr w ↦ inr (
+    w.0 ∙ ap (λ (p : Packet). p.address) same,
+    subst (λ (x : ℕ). held_in new x bytes) (ap (λ (p : Packet). p.address) same) (subst (λ (x : List ℕ). held_in new a.to x) (ap (λ (p : Packet). p.bytes) same) w.1),
+  )
+]
 
 pub holds_added : (acks : List Ack) (a : Ack) (to : ℕ) (bytes : List ℕ) → (let p : Packet = record { address = to; bytes = bytes } in packet_of a ≡ p) → held_in (acks ++ a ∷ []) to bytes
 holds_added [] a to bytes same = (0, omega arith, same)
@@ -164,20 +191,8 @@ say_goes P Q R to bytes mask is before one a b went = elim (one a b went) [
   | inr now ↦ inr (mask, now.1 ∙ is)
 ]
 
-pub none_said : AllSay []
-none_said k d lt = absurd (omega (arith, lt))
-
 -- from call to call, where the port is `now` at the end
 module _ {X : Type 0} where
-  pub said_then : (M : X → Meaning) (start before after now : X) (said : List Packet) (to : ℕ) (bytes mask : List ℕ) (result : Result (Unit {0}) Failed) → now ≡ after → bytes ≡ 18 ∷ mask → AllSay said
-      → SendsAll said (M start) (M before) → Sends to bytes (M before) (M after) result → (more : List Packet) × AllSay more × SendsAll more (M start) (M now)
-  said_then M start before after now said to bytes mask result same is all sent one =
-      let p : Packet = record { address = to; bytes = bytes } in
-      (said ++ p ∷ [], says_one_more said p all (mask, is), subst (λ (x : X). SendsAll (said ++ p ∷ []) (M start) (M x)) (sym same) (sends_one_more said p (M start) (M before) (M after) result sent one))
-
-  pub said_still : (M : X → Meaning) (start before now : X) (said : List Packet) → now ≡ before → AllSay said → SendsAll said (M start) (M before) → (more : List Packet) × AllSay more × SendsAll more (M start) (M now)
-  said_still M start before now said same all sent = (said, all, subst (λ (x : X). SendsAll said (M start) (M x)) (sym same) sent)
-
   pub more_then : (D : Datagrams) (F : X → Datagrams) (before after now : X) → now ≡ after → NoMore D (F before) → NoMore (F before) (F after) → NoMore D (F now)
   more_then D F before after now same one other a b has = one a b (other a b (subst (λ (x : X). F x a b) same has))
 

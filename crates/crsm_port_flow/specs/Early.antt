@@ -1,5 +1,5 @@
 -- Frames that wait for an earlier one of their link.
-use Rattle.std.specs.Prelude.{◌≡◌, ◌⊎◌, ◌+◌, ◌-◌, ◌*◌, ◌%◌, ◌^◌, ◌<◌, ℕ, List, [], ◌∷◌, Contains, Option, Some, None, min, slice_get, slice_index_or, slice_set}
+use Rattle.std.specs.Prelude.{◌≡◌, ◌⊎◌, ◌+◌, ◌-◌, ◌*◌, ◌%◌, ◌^◌, ◌<◌, ◌≤◌, ◌==◌, if◌then◌else◌, ℕ, List, [], ◌∷◌, Contains, Option, Some, None, min, slice_get, slice_index_or, slice_set}
 use Rattle.crsm_port_flow.specs.declared.datagram.Datagram.{Datagram}
 use Rattle.crsm_port_flow.specs.declared.early.Frame.{Frame}
 use Rattle.crsm_port_flow.specs.declared.early.Link.{Link}
@@ -47,6 +47,35 @@ KeepsSome old new = (k : ℕ) (f : Frame) → slice_index_or new k None ≡ Some
 -- no frame waits but those that did, and this datagram
 abbrev pub OneMoreWaits : Datagram → List (Option Frame) → List (Option Frame) → Type 0
 OneMoreWaits datagram old new = (f : Frame) → Contains new (Some f) → Contains old (Some f) ⊎ (f.datagram ≡ datagram)
+
+-- ---- the frames before one that is expected
+
+-- the place has a frame of this sender below a number
+abbrev pub IsFrameBelow : ℕ → ℕ → Option Frame → Type 0
+IsFrameBelow from least place = (f : Frame) × (place ≡ Some f) × (f.from ≡ from) × (f.number < least)
+
+-- no frame is lost but those of this sender below a number
+abbrev pub LosesBelow : ℕ → ℕ → List (Option Frame) → List (Option Frame) → Type 0
+LosesBelow from least old new = (f : Frame) → Contains old (Some f) → Contains new (Some f) ⊎ ((f.from ≡ from) × (f.number < least))
+
+-- no frame of this sender below a number waits
+abbrev pub NoneBelow : ℕ → ℕ → List (Option Frame) → Type 0
+NoneBelow from least frames = (number : ℕ) → number < least → Waits from number frames → ⊥
+
+-- the least number of a frame that waits on, where this one is expected in an epoch: of another epoch none waits on
+abbrev pub least_kept : ℕ → ℕ → Link → ℕ
+least_kept epoch next link = if link.epoch == epoch then next else 2 ^ 64 - 1
+
+-- it is no news that this number is expected of a sender
+abbrev pub IsNoNews : ℕ → ℕ → ℕ → List Link → Type 0
+IsNoNews from epoch next links = (link : Link) → slice_get links from ≡ Some link → (link.epoch ≡ epoch) × (next ≤ link.next)
+
+-- it is learnt that this number is expected of a sender in an epoch: frames of the sender before it no longer wait
+abbrev pub Learns : (from epoch next : ℕ) → (links links_now : List Link) → (frames frames_now : List (Option Frame)) → Type 0
+Learns from epoch next links links_now frames frames_now =
+    (IsNoNews from epoch next links × (links_now ≡ links) × (frames_now ≡ frames))
+    ⊎ ((link : Link) × (slice_get links from ≡ Some link) × (links_now ≡ slice_set links from (record link { epoch = epoch; next = next }))
+    × LosesBelow from (least_kept epoch next link) frames frames_now × NoneBelow from (least_kept epoch next link) frames_now)
 
 -- ---- the frames that follow one
 

@@ -1,10 +1,11 @@
 -- Frames that waited for another one and become ready behind it.
-use Rattle.std.specs.Prelude.{◌≡◌, ◌⊎◌, ◌++◌, ℕ, List, ◌∷◌, Contains, Some}
-use Rattle.crsm_port_flow.specs.Early.{AreFrames, Expects, Waits, after}
+use Rattle.std.specs.Prelude.{◌≡◌, ◌⊎◌, ◌++◌, ◌<◌, ◌≤◌, ℕ, List, ◌∷◌, Contains, Some, slice_get}
+use Rattle.crsm_port_flow.specs.Early.{AreFrames, Expects, Waits, after, least_kept}
 use Rattle.crsm_port_flow.specs.Heads.{HasHead}
 use Rattle.crsm_port_flow.specs.Kept.{Is}
 use Rattle.crsm_port_flow.specs.declared.datagram.Datagram.{Datagram}
 use Rattle.crsm_port_flow.specs.declared.early.Frame.{Frame}
+use Rattle.crsm_port_flow.specs.declared.early.Link.{Link}
 use Rattle.crsm_port_flow.specs.declared.peers.FromPeers.{FromPeers}
 
 -- of this sender the frames from this number on up to another were taken from those that wait, and that one does not wait
@@ -24,6 +25,26 @@ IsFollowedFrom sender epoch number from bytes old new =
 -- where the bytes are the frame that is expected of their sender, it is ready, and behind it those that waited for it
 abbrev pub IsFollowed : ℕ → List ℕ → FromPeers → FromPeers → Type 0
 IsFollowed from bytes old new = (sender to epoch number : ℕ) → HasHead 1 sender to epoch number bytes → IsFollowedFrom sender epoch number from bytes old new
+
+-- a frame of this sender is past, where this number is expected next of it in an epoch
+abbrev pub IsPast : (sender epoch next : ℕ) → List Link → Frame → Type 0
+IsPast sender epoch next links f = (link : Link) × (slice_get links sender ≡ Some link) × (f.from ≡ sender) × (f.number < least_kept epoch next link)
+
+-- each frame that waited waits still, or is ready, or is past
+abbrev pub LosesPast : (sender epoch next : ℕ) → FromPeers → FromPeers → Type 0
+LosesPast sender epoch next old new =
+    (f : Frame) → Contains old.early.frames.items (Some f) → (Contains new.early.frames.items (Some f) ⊎ Contains new.ready.items f.datagram) ⊎ IsPast sender epoch next old.early.links.items f
+
+-- this number or a later one is expected next of a sender in this epoch, if the sender has a link, and that frame does not wait
+abbrev pub IsExpectedOf : (sender epoch next : ℕ) → FromPeers → FromPeers → Type 0
+IsExpectedOf sender epoch next old new =
+    (link : Link) → slice_get old.early.links.items sender ≡ Some link → (last : ℕ) × (next ≤ last) × Expects sender epoch last new.early.links.items × (Waits sender last new.early.frames.items → ⊥)
+
+-- what is sent is an acknowledgement, of which frames are past; or nothing changes of what is kept of peers
+abbrev pub GoesBy : List ℕ → FromPeers → FromPeers → Type 0
+GoesBy bytes old new =
+    ((from to epoch number : ℕ) × HasHead 2 from to epoch number bytes × LosesPast to epoch number old new × IsExpectedOf to epoch number old new)
+    ⊎ (((from to epoch number : ℕ) → HasHead 2 from to epoch number bytes → ⊥) × (new ≡ old))
 
 -- each frame that waited waits still, or is ready
 abbrev pub NoneLost : FromPeers → FromPeers → Type 0

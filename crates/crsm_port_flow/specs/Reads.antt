@@ -59,7 +59,7 @@ pub record TakesOne (now : ℕ) (p : Packet) (old new : State) : Type 0 where
   pub receives : Receives old.below new.below before after (Ok (Datagram p.address len))
   pub bytes : p.bytes ≡ take len after
   pub taken : TakesIn p.address p.bytes now old.hearing.peers.items old.kept new.kept old.lost new.lost
-  pub known : AreKnownBy old.hearing.me p.address p.bytes old.hearing.peers.items new.hearing.peers.items
+  pub known : AreKnownBy old.hearing.me p.address p.bytes now old.hearing.peers.items new.hearing.peers.items
   pub me : new.hearing.me ≡ old.hearing.me
 
 -- it hands up these, one after another, and each is taken in

@@ -49,7 +49,7 @@ IsMadeWait from bytes now old new = (r : Waiting) × IsRequest bytes × IsComman
 
 -- it is a repeat of a request that waits or has no reply
 abbrev pub IsRepeat : List ℕ → ℕ → Clients → Type 0
-IsRepeat bytes now old = (command : Command) × IsRequest bytes × IsCommandIn command bytes × IsUnderWay command now old.requests.waits.entries old.requests.unanswered.entries
+IsRepeat bytes now old = (command : Command) × IsRequest bytes × IsCommandIn command bytes × IsUnderWay command now old.requests.waiting.items old.requests.unanswered.entries
 
 -- it is the latest request for a membership change, and was not handed up
 abbrev pub IsLatest : ℕ → List ℕ → ℕ → Clients → Type 0
@@ -72,7 +72,7 @@ IsStranger from peers = IsPeer from peers → ⊥
 
 -- it says whom a peer hears
 abbrev pub IsSaid : List ℕ → Type 0
-IsSaid bytes = (mask : List ℕ) × (bytes ≡ 18 ∷ mask)
+IsSaid bytes = (high low : ℕ) × (rest : List ℕ) × (bytes ≡ 18 ∷ high ∷ low ∷ rest)
 
 -- it comes from a peer that has said three times that it does not hear this node
 abbrev pub IsOfDeaf : ℕ → List Peer → Type 0

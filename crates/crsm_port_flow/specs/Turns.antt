@@ -1,5 +1,5 @@
 -- Requests that wait for their turn, the oldest first, and commands that are under way.
-use Rattle.std.specs.Prelude.{◌≡◌, ◌⊎◌, ◌++◌, ◌&&◌, ◌==◌, ℕ, Bool, List, [], ◌∷◌, All, Option, Some, None, false}
+use Rattle.std.specs.Prelude.{◌≡◌, ◌⊎◌, ◌++◌, ◌&&◌, ◌==◌, ℕ, Bool, List, [], ◌∷◌, All, Contains, Option, Some, None, true, false}
 use Rattle.std.specs.Map.{lookup}
 use Rattle.crsm_base.specs.Reading.{u64_at}
 use Rattle.crsm_wire.specs.Marks.{behind_any_mark}
@@ -37,9 +37,21 @@ IsAnswered command unanswered = reading_of command unanswered ≡ None
 abbrev pub OthersStay : Command → List (Command × ℕ) → List (Command × ℕ) → Type 0
 OthersStay command old new = (other : Command) → is_same command other ≡ false → reading_of other new ≡ reading_of other old
 
+-- a request of this command waits for less than two seconds
+abbrev pub IsWaiting : Command → ℕ → List Request → Type 0
+IsWaiting command now waiting = (r : Request) × Contains waiting r × (r.command ≡ command) × IsRecent r.since now 2_000_000
+
 -- the command waits for less than two seconds, or the node has had it for less than one and has not answered it
-abbrev pub IsUnderWay : Command → ℕ → (waits unanswered : List (Command × ℕ)) → Type 0
-IsUnderWay command now waits unanswered = IsSince command now 2_000_000 waits ⊎ IsSince command now 1_000_000 unanswered
+abbrev pub IsUnderWay : Command → ℕ → (waiting : List Request) → (unanswered : List (Command × ℕ)) → Type 0
+IsUnderWay command now waiting unanswered = IsWaiting command now waiting ⊎ IsSince command now 1_000_000 unanswered
+
+-- no command counts as one that the node has not answered but those that did, each since the same reading
+abbrev pub LeavesSome : (unanswered unanswered_now : List (Command × ℕ)) → Type 0
+LeavesSome old new = (command : Command) (at : ℕ) → reading_of command new ≡ Some at → reading_of command old ≡ Some at
+
+-- no command counts so but those that did, and this one, now
+abbrev pub CountsOneMore : Command → ℕ → (unanswered unanswered_now : List (Command × ℕ)) → Type 0
+CountsOneMore one now old new = (command : Command) (at : ℕ) → reading_of command new ≡ Some at → (reading_of command old ≡ Some at) ⊎ ((is_same one command ≡ true) × (at ≡ now))
 
 -- no command counts, or the one that the node received first has been there for less than a second without a reply
 abbrev pub IsOldestYoung : ℕ → List Opened → (unanswered : List (Command × ℕ)) → Type 0

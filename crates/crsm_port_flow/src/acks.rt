@@ -1,8 +1,8 @@
 //! Acknowledgements that are held back until the next flush.
 
-ghost use Rattle.std.specs.Prelude.{◌≡◌, ◌≤◌, [], take, length, map, true, IfOk};
+ghost use Rattle.std.specs.Prelude.{◌≡◌, ◌≤◌, [], take, length, map, true, false, IfOk};
 ghost use Rattle.crsm_port.specs.Passing.{NoMore, OneMore};
-ghost use Rattle.crsm_port_flow.specs.Acks.{held_in, packet_of, sent_with};
+ghost use Rattle.crsm_port_flow.specs.Acks.{AtPlaceOf, StayHeld, held_in, packet_of, sent_with};
 ghost use Rattle.crsm_port_flow.specs.Waits.{SendsAll};
 
 use crsm_base::NoMemory;
@@ -67,6 +67,8 @@ impl LastAcks {
     pub(crate) fn hold(&mut self, to: u64, bytes: &[u8]) -> bool
         ensures only { OneMore to bytes.now (held_in self.old.acks.items) (held_in self.new.acks.items) }
         ensures held { result ≡ true → held_in self.new.acks.items to bytes.now }
+        ensures stay { StayHeld to bytes.now self.old.acks.items self.new.acks.items }
+        ensures not { result ≡ false → self.new.acks.items ≡ self.old.acks.items }
     {
         if bytes.len() > MOST_BYTES {
             return false;
@@ -80,7 +82,10 @@ impl LastAcks {
 
     /// Puts an acknowledgement in the place of another, and returns whether there is such a place.
     fn replace(&mut self, place: usize, ack: Ack) -> bool
+        requires { AtPlaceOf ack place self.old.acks.items }
         ensures only { OneMore ack.to (take ack.len ack.bytes) (held_in self.old.acks.items) (held_in self.new.acks.items) }
+        ensures stay { StayHeld ack.to (take ack.len ack.bytes) self.old.acks.items self.new.acks.items }
+        ensures not { result ≡ false → self.new.acks.items ≡ self.old.acks.items }
         ensures held { result ≡ true → held_in self.new.acks.items ack.to (take ack.len ack.bytes) }
     {
         match self.acks.get_mut(place) {

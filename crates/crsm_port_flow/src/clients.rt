@@ -1,14 +1,6 @@
 //! What those ask for who are no peers: clients' requests, and an operator's request for a membership change.
 
-ghost use Rattle.std.specs.Prelude.{◌≡◌, ◌⊎◌, ℕ, [], IfOk, IfSome, IsErrOf, OnErr, OnOk, None, Some, true, false};
-ghost use Rattle.crsm_port.specs.Passing.{NoMore};
-ghost use Rattle.crsm_port_flow.specs.Heads.{AsksNothing, IsOperate, IsRequest};
-ghost use Rattle.crsm_port_flow.specs.Kept.{KeepsOnly, of_clients};
-ghost use Rattle.crsm_port_flow.specs.Lost.{HasNoRoomOfClients};
-ghost use Rattle.crsm_port_flow.specs.Order.{IsNotDue, LatestGoes, NoneGoes, OldestGoes};
-ghost use Rattle.crsm_port_flow.specs.Same.{SameClients};
-ghost use Rattle.crsm_port_flow.specs.Taken.{IsAsked};
-ghost use Rattle.crsm_port_flow.specs.Turns.{AreInTime, DropsOver, IsAnswered, IsCommandIn};
+ghost use Rattle.crsm_port_flow.specs.Rooms.{CountsAsked};
 
 use crate::commands::Command;
 use crate::datagram::{Datagram, Limits, Loss, Room};
@@ -55,9 +47,20 @@ pub(crate) struct Clients {
     room: Room,
     pub(crate) requests: Requests,
     operate: Option<Operate>,
+    ghost counted: { CountsAsked room requests.waiting.items operate },
 }
 
 impl Clients {
+    ghost use Rattle.std.specs.Prelude.{◌≡◌, ◌⊎◌, ℕ, [], IfOk, IfSome, IsErrOf, OnErr, OnOk, None, Some, true, false};
+    ghost use Rattle.crsm_port.specs.Passing.{NoMore};
+    ghost use Rattle.crsm_port_flow.specs.Heads.{AsksNothing, IsOperate, IsRequest};
+    ghost use Rattle.crsm_port_flow.specs.Kept.{KeepsOnly, of_clients};
+    ghost use Rattle.crsm_port_flow.specs.Lost.{HasNoRoomOfClients};
+    ghost use Rattle.crsm_port_flow.specs.Order.{IsNotDue, LatestGoes, NoneGoes, OldestGoes};
+    ghost use Rattle.crsm_port_flow.specs.Same.{SameClients};
+    ghost use Rattle.crsm_port_flow.specs.Taken.{IsAsked};
+    ghost use Rattle.crsm_port_flow.specs.Turns.{AreInTime, DropsOver, IsAnswered, IsCommandIn};
+
     /// Returns a state without requests, or `NoMemory` if memory runs out.
     pub(crate) fn new(alloc: Global) -> Result<Clients, NoMemory>
         ensures { IfOk result (λ c. (c.requests.waiting.items ≡ []) × (c.operate ≡ None)) }
@@ -117,12 +120,14 @@ impl Clients {
         ensures only { KeepsOnly from bytes.now (of_clients self.old) (of_clients self.new) }
     {
         let datagram = self.room.put(LIMITS, from, bytes)?;
-        self.forget_operate();
-        self.operate = Some(Operate {
+        let operate = Operate {
             datagram,
             at: now,
             has_gone: false,
-        });
+        };
+        if let Some(before) = self.operate.replace(operate) {
+            self.room.take_back(before.datagram);
+        }
         Ok(())
     }
 

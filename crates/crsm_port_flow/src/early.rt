@@ -1,7 +1,7 @@
 //! Frames that were received before an earlier frame of their link.
 
-ghost use Rattle.std.specs.Prelude.{◌≡◌, ◌<◌, ◌≤◌, ◌↔◌, ℕ, [], None, length, slice_set, IfOk, IfErr, IfSome, IsSome, IsTrue, OnOk, true};
-ghost use Rattle.crsm_port_flow.specs.Early.{Expects, kept_at, IsAfterExpected, IsEarlyIn, IsFrameOf, KeepsSome, NoneNext, OneMoreWaits, StayKept, TakesNext, Waits, WaitsAs, after, place_of};
+ghost use Rattle.std.specs.Prelude.{◌≡◌, ◌<◌, ◌≤◌, ◌↔◌, ◌-◌, ◌^◌, ◌==◌, if◌then◌else◌, ℕ, [], None, length, slice_index_or, slice_set, IfOk, IfErr, IfSome, IsSome, IsTrue, OnOk, true};
+ghost use Rattle.crsm_port_flow.specs.Early.{Expects, kept_at, IsAfterExpected, IsEarlyIn, IsFrameBelow, IsFrameOf, KeepsSome, Learns, LosesBelow, NoneBelow, NoneNext, OneMoreWaits, StayKept, TakesNext, Waits, WaitsAs, after, place_of};
 ghost use Rattle.crsm_port_flow.specs.Rooms.{Counts, IsOneMore};
 
 use crate::datagram::{Datagram, Room};
@@ -189,6 +189,7 @@ impl Early {
         ensures only { KeepsSome self.old.frames.items self.new.frames.items }
         ensures room { (others sizes : ℕ) → Counts room.old others sizes self.old.frames.items → Counts room.new others sizes self.new.frames.items }
         ensures no_more { room.new.count ≤ room.old.count }
+        ensures learns { Learns of epoch next self.old.links.items self.new.links.items self.old.frames.items self.new.frames.items }
     {
         let Some(link) = self.links.get_mut(usize::from(of)) else {
             return;
@@ -203,8 +204,7 @@ impl Early {
         }
         link.epoch = epoch;
         link.next = next;
-        let least = if known == epoch { next } else { u64::MAX };
-        self.forget(of, least, room);
+        self.forget(of, least_kept(known, epoch, next), room);
     }
 
     /// Removes the kept frames of a replica before a number.
@@ -213,9 +213,11 @@ impl Early {
         ensures room { (others sizes : ℕ) → Counts room.old others sizes self.old.frames.items → Counts room.new others sizes self.new.frames.items }
         ensures no_more { room.new.count ≤ room.old.count }
         ensures links { self.new.links ≡ self.old.links }
+        ensures lost { LosesBelow of least self.old.frames.items self.new.frames.items }
+        ensures gone { NoneBelow of least self.new.frames.items }
     {
         for number in 0..WINDOW as u64 {
-            if let Some(datagram) = take_below(&mut self.frames, place_of(of, number), least) {
+            if let Some(datagram) = take_below(&mut self.frames, place_of(of, number), of, least) {
                 room.take_back(datagram);
             }
         }
@@ -265,16 +267,40 @@ fn is_frame(place: &Option<Frame>, from: u8, number: u64) -> bool
     }
 }
 
-/// Removes the frame at a place if its number is below this one, and returns its datagram; or `None`.
-fn take_below(frames: &mut Vec<Option<Frame>>, place: usize, least: u64) -> Option<Datagram>
+/// Returns whether this is a frame of this sender below a number.
+fn is_below(place: &Option<Frame>, from: u8, least: u64) -> bool
+    ensures { IsTrue result ↔ IsFrameBelow from least place.now }
+{
+    match place {
+        Some(frame) => frame.from == from && frame.number < least,
+        None => false,
+    }
+}
+
+/// Removes the frame at a place if it is of this sender and below a number, and returns its datagram; or `None`.
+fn take_below(
+    frames: &mut Vec<Option<Frame>>,
+    place: usize,
+    from: u8,
+    least: u64,
+) -> Option<Datagram>
+    ensures was { IsSome result → IsFrameBelow from least (slice_index_or frames.old.items place None) }
     ensures gone { IfSome result (λ d. IsOneMore d frames.new.items frames.old.items × (frames.new.items ≡ slice_set frames.old.items place None)) }
     ensures none { result ≡ None → frames.new.items ≡ frames.old.items }
+    ensures above { result ≡ None → IsFrameBelow from least (slice_index_or frames.old.items place None) → ⊥ }
 {
     let place = frames.get_mut(place)?;
-    match place {
-        Some(frame) if frame.number < least => {}
-        _ => return None,
+    if !is_below(place, from, least) {
+        return None;
     }
     let frame = place.take()?;
     Some(frame.datagram)
+}
+
+/// Returns the least number of a frame that is still kept, where this one is expected in an epoch and the link was known
+/// for another or the same.
+fn least_kept(known: u64, epoch: u64, next: u64) -> u64
+    ensures { result ≡ (if known == epoch then next else 2 ^ 64 - 1) }
+{
+    if known == epoch { next } else { u64::MAX }
 }

@@ -1,12 +1,14 @@
 //! `FlowPort`: retransmission and flow control around a port.
 
-ghost use Rattle.std.specs.Prelude.{◌≡◌, ◌≢◌, ◌≤◌, ◌⊎◌, ◌++◌, List, [], take, map, true, false, IfOk, IfSome, IsErrOf, IsOk, IsOkAnd, OnErr, OnOk, length};
+ghost use Rattle.std.specs.Prelude.{◌≡◌, ◌≢◌, ◌≤◌, ◌⊎◌, ◌++◌, List, [], take, map, true, false, All, None, Option, IfOk, IfSome, IsErrOf, IsOk, IsOkAnd, OnErr, OnOk, length};
+ghost use Rattle.crsm_clock.specs.Readings.{Gives, Readings};
 ghost use Rattle.crsm_port_faults.specs.Counts.{Rose};
 ghost use Rattle.crsm_port.specs.Meaning.{IsWithin, Packet, Receives, Reserves, Sends};
 ghost use Rattle.crsm_port.specs.Passing.{Cut, HandsUp, IsOf, NoMore, PassesOn, Rests};
 ghost use Rattle.crsm_port.specs.Unknown.{unknown};
-ghost use Rattle.crsm_port_flow.specs.Acks.{AllSay, packet_of, sent_with};
-ghost use Rattle.crsm_port_flow.specs.Hears.{AreKnownBy};
+ghost use Rattle.crsm_port_flow.specs.Acks.{packet_of, sent_with};
+ghost use Rattle.crsm_port_flow.specs.Followed.{GoesBy};
+ghost use Rattle.crsm_port_flow.specs.Hears.{AreKnownBy, Tells, unheard};
 ghost use Rattle.crsm_port_flow.specs.Kept.{KeepsOnly, given_by, kept_in};
 ghost use Rattle.crsm_port_flow.specs.Lost.{MayDrop, TakesIn};
 ghost use Rattle.crsm_port_flow.specs.Order.{NextGoes, NothingGoes};
@@ -14,7 +16,7 @@ ghost use Rattle.crsm_port_flow.specs.Reads.{IsAnswer, ReadsAhead, ReadsAll, Rea
 ghost use Rattle.crsm_port_flow.specs.Same.{SameClients, SameKept, SamePeers, StaysWhenSent};
 ghost use Rattle.crsm_port_flow.specs.Taken.{Comes, IsStranger};
 ghost use Rattle.crsm_port_flow.specs.Turns.{IsAnswered, IsReplyTo};
-ghost use Rattle.crsm_port_flow.specs.Waits.{MayWait, SendsAll};
+ghost use Rattle.crsm_port_flow.specs.Waits.{HoldsStill, MayWait, Notes, NotesNone, SendsAll};
 ghost use Rattle.crsm_port_flow.specs.declared.commands.Command.{Command};
 
 use crate::clients::NextAsked;
@@ -99,7 +101,11 @@ impl<P: Drop, C: Drop> FlowPort<P, C> {
         me: usize,
         peers: &[u64],
     ) -> Result<FlowPort<P, C>, NoMemory>
-        ensures { IfOk result (λ p. (p.port ≡ inner) × (length p.room.items ≡ 8_201) × (p.has_failed ≡ false) × NoMore (λ _ _. ⊥) (kept_in p.inbound) × (p.outbound.acks.acks.items ≡ [])) }
+        ensures made { IfOk result (λ p. (p.port ≡ inner) × (length p.room.items ≡ 8_201) × (p.has_failed ≡ false) × NoMore (λ _ _. ⊥) (kept_in p.inbound) × (p.outbound.acks.acks.items ≡ [])) }
+        ensures clock { IfOk result (λ p. p.clock ≡ clock) }
+        ensures peers { IfOk result (λ p. (p.hearing.me ≡ me) × (p.hearing.peers.items ≡ map unheard peers.now) × (p.hearing.said_at ≡ None)) }
+        ensures frames { IfOk result (λ p. All (λ f. f.at ≡ 0) p.outbound.repeats.last.items) }
+        ensures parts { IfOk result (λ p. All (λ q. q.at ≡ 0) p.outbound.parts.last.items) }
     {
         Ok(FlowPort {
             port: inner,
@@ -128,11 +134,12 @@ impl<P: Port, C: Clock> FlowPort<P, C> {
         ensures kept { KeepsOnly from (take len self.old.room.items) (kept_in self.old.inbound) (kept_in self.new.inbound) }
         ensures comes { TakesIn from (take len self.old.room.items) self.old.now self.old.hearing.peers.items self.old.inbound self.new.inbound self.old.lost self.new.lost }
         ensures leaves_room { IsStranger from self.old.hearing.peers.items → self.new.inbound.peers ≡ self.old.inbound.peers }
-        ensures known { AreKnownBy self.old.hearing.me from (take len self.old.room.items) self.old.hearing.peers.items self.new.hearing.peers.items }
+        ensures known { AreKnownBy self.old.hearing.me from (take len self.old.room.items) self.old.now self.old.hearing.peers.items self.new.hearing.peers.items }
         ensures me { self.new.hearing.me ≡ self.old.hearing.me }
         ensures same { self.new ≡ record self.old { hearing = self.new.hearing; quiet = self.new.quiet; inbound = self.new.inbound; outbound = self.new.outbound; lost = self.new.lost } }
         ensures port { self.new.port ≡ self.old.port }
         ensures acks { self.new.outbound.acks ≡ self.old.outbound.acks }
+        ensures noted { NotesNone self.old.outbound self.new.outbound }
         ensures counts { unknown self.new.faults self.new.losses self.new.empties ≡ unknown self.old.faults self.old.losses self.old.empties }
     {
         let Err(loss) = self.takes(from, len) else {
@@ -149,12 +156,13 @@ impl<P: Port, C: Clock> FlowPort<P, C> {
         ensures comes { OnOk result (Comes from (take len self.old.room.items) self.old.now self.old.hearing.peers.items self.old.inbound self.new.inbound) }
         ensures dropped { IsErrOf result Loss.Dropped → MayDrop from (take len self.old.room.items) self.old.hearing.peers.items self.old.inbound }
         ensures leaves_room { IsStranger from self.old.hearing.peers.items → self.new.inbound.peers ≡ self.old.inbound.peers }
-        ensures known { AreKnownBy self.old.hearing.me from (take len self.old.room.items) self.old.hearing.peers.items self.new.hearing.peers.items }
+        ensures known { AreKnownBy self.old.hearing.me from (take len self.old.room.items) self.old.now self.old.hearing.peers.items self.new.hearing.peers.items }
         ensures me { self.new.hearing.me ≡ self.old.hearing.me }
         ensures unchanged { OnErr result (SamePeers self.old.inbound.peers self.new.inbound.peers × SameClients self.old.inbound.clients self.new.inbound.clients) }
         ensures same { self.new ≡ record self.old { hearing = self.new.hearing; quiet = self.new.quiet; inbound = self.new.inbound; outbound = self.new.outbound } }
         ensures lost { self.new.lost ≡ self.old.lost }
         ensures acks { self.new.outbound.acks ≡ self.old.outbound.acks }
+        ensures noted { NotesNone self.old.outbound self.new.outbound }
     {
         let Some(bytes) = self.room.get(..len) else {
             unreachable!();
@@ -180,6 +188,7 @@ impl<P: Port, C: Clock> FlowPort<P, C> {
         ensures gives { NoMore (given_by (P.gives self.old.port) self.old.inbound) (given_by (P.gives self.new.port) self.new.inbound) }
         ensures sends { NoMore (P.may_send self.old.port) (P.may_send self.new.port) }
         ensures acks { self.new.outbound.acks ≡ self.old.outbound.acks }
+        ensures noted { NotesNone self.old.outbound self.new.outbound }
         ensures reads { ReadsAll self.old.has_failed self.new.has_failed self.old.now (state_of (P.meaning self.old.port) self.old) (state_of (P.meaning self.new.port) self.new) }
         ensures now { self.new.now ≡ self.old.now }
         ensures counts { unknown self.new.faults self.new.losses self.new.empties ≡ unknown self.old.faults self.old.losses self.old.empties }
@@ -199,6 +208,7 @@ impl<P: Port, C: Clock> FlowPort<P, C> {
         ensures gives { NoMore (given_by (P.gives self.old.port) self.old.inbound) (given_by (P.gives self.new.port) self.new.inbound) }
         ensures sends { NoMore (P.may_send self.old.port) (P.may_send self.new.port) }
         ensures acks { self.new.outbound.acks ≡ self.old.outbound.acks }
+        ensures noted { NotesNone self.old.outbound self.new.outbound }
         ensures reads { ReadsOne self.old.has_failed self.new.has_failed self.old.now (state_of (P.meaning self.old.port) self.old) (state_of (P.meaning self.new.port) self.new) result }
         ensures now { self.new.now ≡ self.old.now }
         ensures counts { unknown self.new.faults self.new.losses self.new.empties ≡ unknown self.old.faults self.old.losses self.old.empties }
@@ -228,6 +238,7 @@ impl<P: Port, C: Clock> FlowPort<P, C> {
         ensures gives { NoMore (given_by (P.gives self.old.port) self.old.inbound) (given_by (P.gives self.new.port) self.new.inbound) }
         ensures sends { NoMore (P.may_send self.old.port) (P.may_send self.new.port) }
         ensures acks { self.new.outbound.acks ≡ self.old.outbound.acks }
+        ensures noted { NotesNone self.old.outbound self.new.outbound }
         ensures takes { TakesAndEnds self.old.has_failed self.old.now buf.old buf.new (state_of (P.meaning self.old.port) self.old) (state_of (P.meaning self.new.port) self.new) result }
         ensures ready { OnOk result (self.new.has_failed ≡ self.old.has_failed) }
         ensures failed { OnErr result (self.new.has_failed ≡ false) }
@@ -247,6 +258,7 @@ impl<P: Port, C: Clock> FlowPort<P, C> {
         ensures gives { NoMore (given_by (P.gives self.old.port) self.old.inbound) (given_by (P.gives self.new.port) self.new.inbound) }
         ensures sends { NoMore (P.may_send self.old.port) (P.may_send self.new.port) }
         ensures acks { self.new.outbound.acks ≡ self.old.outbound.acks }
+        ensures noted { NotesNone self.old.outbound self.new.outbound }
         ensures takes { TakesAndEnds self.old.has_failed self.old.now buf.old buf.new (state_of (P.meaning self.old.port) self.old) (state_of (P.meaning self.new.port) self.new) result }
         ensures ready { OnOk result (self.new.has_failed ≡ self.old.has_failed) }
         ensures failed { OnErr result (self.new.has_failed ≡ false) }
@@ -266,6 +278,7 @@ impl<P: Port, C: Clock> FlowPort<P, C> {
         ensures gives { NoMore (given_by (P.gives self.old.port) self.old.inbound) (given_by (P.gives self.new.port) self.new.inbound) }
         ensures sends { NoMore (P.may_send self.old.port) (P.may_send self.new.port) }
         ensures acks { self.new.outbound.acks ≡ self.old.outbound.acks }
+        ensures noted { NotesNone self.old.outbound self.new.outbound }
         ensures takes { TakesAndEnds self.old.has_failed self.old.now buf.old buf.new (state_of (P.meaning self.old.port) self.old) (state_of (P.meaning self.new.port) self.new) result }
         ensures ready { OnOk result (self.new.has_failed ≡ self.old.has_failed) }
         ensures failed { OnErr result (self.new.has_failed ≡ false) }
@@ -286,6 +299,7 @@ impl<P: Port, C: Clock> FlowPort<P, C> {
         ensures gives { NoMore (given_by (P.gives self.old.port) self.old.inbound) (given_by (P.gives self.new.port) self.new.inbound) }
         ensures sends { NoMore (P.may_send self.old.port) (P.may_send self.new.port) }
         ensures acks { self.new.outbound.acks ≡ self.old.outbound.acks }
+        ensures noted { NotesNone self.old.outbound self.new.outbound }
         ensures takes { TakesOrEnds self.old.has_failed self.old.now buf.old buf.new (state_of (P.meaning self.old.port) self.old) (state_of (P.meaning self.new.port) self.new) result }
         ensures ready { OnOk result (self.new.has_failed ≡ self.old.has_failed) }
         ensures failed { OnErr result (self.new.has_failed ≡ false) }
@@ -307,6 +321,7 @@ impl<P: Port, C: Clock> FlowPort<P, C> {
         ensures gives { NoMore (given_by (P.gives self.old.port) self.old.inbound) (given_by (P.gives self.new.port) self.new.inbound) }
         ensures sends { NoMore (P.may_send self.old.port) (P.may_send self.new.port) }
         ensures acks { self.new.outbound.acks ≡ self.old.outbound.acks }
+        ensures noted { NotesNone self.old.outbound self.new.outbound }
         ensures takes { TakesOrEnds self.old.has_failed self.old.now buf.old buf.new (state_of (P.meaning self.old.port) self.old) (state_of (P.meaning self.new.port) self.new) result }
         ensures ready { OnOk result (self.new.has_failed ≡ self.old.has_failed) }
         ensures failed { OnErr result (self.new.has_failed ≡ false) }
@@ -392,6 +407,8 @@ impl<P: Port, C: Clock> Port for FlowPort<P, C> {
         ensures hands_up { HandsUp (given_by (P.gives self.old.port) self.old.inbound) (given_by (P.gives self.new.port) self.new.inbound) (sent_with (P.may_send self.old.port) self.old.outbound.acks.acks.items) (sent_with (P.may_send self.new.port) self.new.outbound.acks.acks.items) buf.new result }
         ensures goes { self.old.inbound.peers.ready.items ≢ [] → IsOkAnd result (NextGoes self.old.inbound self.new.inbound buf.old buf.new) }
         ensures nothing { IfOk result (λ got. got ≡ Recv.Nothing → NothingGoes self.new.now self.new.inbound self.new.outbound.window) }
+        ensures noted { NotesNone self.old.outbound self.new.outbound }
+        ensures none_held { self.new.outbound.acks.acks.items ≡ [] }
         ensures takes { SendsAndTakes (map packet_of self.old.outbound.acks.acks.items) self.old.has_failed self.old.now buf.old buf.new (state_of (P.meaning self.old.port) self.old) (state_of (P.meaning self.new.port) self.new) result }
         ensures ready { OnOk result (self.new.has_failed ≡ self.old.has_failed) }
         ensures failed { OnErr result (self.new.has_failed ≡ false) }
@@ -413,10 +430,13 @@ impl<P: Port, C: Clock> Port for FlowPort<P, C> {
     fn send(&mut self, to: u64, bytes: &[u8]) -> Result<(), Failed>
         ensures sends { Sends to bytes.now (unknown self.old.faults self.old.losses self.old.empties) (unknown self.new.faults self.new.losses self.new.empties) result }
         ensures passes_on { PassesOn (given_by (P.gives self.old.port) self.old.inbound) (given_by (P.gives self.new.port) self.new.inbound) (sent_with (P.may_send self.old.port) self.old.outbound.acks.acks.items) (sent_with (P.may_send self.new.port) self.new.outbound.acks.acks.items) to bytes.now }
-        ensures goes { Sends to bytes.now (P.meaning self.old.port) (P.meaning self.new.port) result ⊎ (IsOk result × (self.new.port ≡ self.old.port) × MayWait to bytes.now self.old.now self.old.outbound self.new.outbound) }
+        ensures goes { Sends to bytes.now (P.meaning self.old.port) (P.meaning self.new.port) result ⊎ (IsOk result × (self.new.port ≡ self.old.port) × MayWait to bytes.now self.old.now self.old.outbound self.new.outbound × NotesNone self.old.outbound self.new.outbound) }
+        ensures noted { Notes to bytes.now self.old.now self.old.outbound self.new.outbound }
+        ensures held { HoldsStill to bytes.now self.old.outbound self.new.outbound }
         ensures answered { (c : Command) → IsReplyTo c bytes.now → IsAnswered c self.new.inbound.clients.requests.unanswered.entries }
         ensures lost { OnErr result (Rose (P.meaning self.old.port).losses (P.meaning self.new.port).losses) }
         ensures stays { StaysWhenSent self.old.inbound self.new.inbound }
+        ensures goes_by { GoesBy bytes.now self.old.inbound.peers self.new.inbound.peers }
         ensures same { self.new ≡ record self.old { port = self.new.port; inbound = self.new.inbound; outbound = self.new.outbound; quiet = self.new.quiet; losses = self.new.losses } }
     {
         self.quiet.note(bytes, self.now);
@@ -436,6 +456,9 @@ impl<P: Port, C: Clock> Port for FlowPort<P, C> {
     fn reserve(&mut self, sends: u64, bytes: u64) -> Result<(), NoMemory>
         ensures reserves { Reserves sends bytes (unknown self.old.faults self.old.losses self.old.empties) (unknown self.new.faults self.new.losses self.new.empties) result }
         ensures rests { Rests (given_by (P.gives self.old.port) self.old.inbound) (given_by (P.gives self.new.port) self.new.inbound) (sent_with (P.may_send self.old.port) self.old.outbound.acks.acks.items) (sent_with (P.may_send self.new.port) self.new.outbound.acks.acks.items) }
+        ensures noted { NotesNone self.old.outbound self.new.outbound }
+        ensures acks { self.new.outbound.acks ≡ self.old.outbound.acks }
+        ensures reading { (after : Option Readings) × Gives (C.readings self.old.clock) after self.new.now }
         ensures reads { ReadsAhead self.old.has_failed self.new.has_failed self.new.now sends bytes (state_of (P.meaning self.old.port) self.old) (state_of (P.meaning self.new.port) self.new) result }
     {
         self.now = self.clock.now();
@@ -455,8 +478,9 @@ impl<P: Port, C: Clock> Port for FlowPort<P, C> {
     fn flush(&mut self)
         ensures same { unknown self.new.faults self.new.losses self.new.empties ≡ unknown self.old.faults self.old.losses self.old.empties }
         ensures rests { Rests (given_by (P.gives self.old.port) self.old.inbound) (given_by (P.gives self.new.port) self.new.inbound) (sent_with (P.may_send self.old.port) self.old.outbound.acks.acks.items) (sent_with (P.may_send self.new.port) self.new.outbound.acks.acks.items) }
-        ensures goes { (said : List Packet) × AllSay said × SendsAll (map packet_of self.old.outbound.acks.acks.items ++ said) (P.meaning self.old.port) (P.meaning self.new.port) }
+        ensures goes { (said : List Packet) × Tells self.old.now self.old.hearing self.new.hearing said × SendsAll (map packet_of self.old.outbound.acks.acks.items ++ said) (P.meaning self.old.port) (P.meaning self.new.port) }
         ensures none_held { self.new.outbound.acks.acks.items ≡ [] }
+        ensures noted { NotesNone self.old.outbound self.new.outbound }
         ensures stays { self.new ≡ record self.old { port = self.new.port; outbound = self.new.outbound; quiet = self.new.quiet; hearing = record self.old.hearing { said_at = self.new.hearing.said_at } } }
     {
         self.outbound.acks.let_go(&mut self.port);

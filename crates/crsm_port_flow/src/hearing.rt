@@ -1,11 +1,11 @@
 //! Which peers this node hears, and which of them hear it.
 
-ghost use Rattle.std.specs.Prelude.{◌≡◌, ◌↔◌, ◌+◌, ◌-◌, ◌^◌, ◌<◌, ◌∷◌, ℕ, List, min, true, false, IfSome, IsTrue};
-ghost use Rattle.std.specs.Int.{IsBitSet};
+ghost use Rattle.std.specs.Prelude.{◌≡◌, ◌≢◌, ◌↔◌, ◌+◌, ◌-◌, ◌^◌, ◌<◌, ℕ, List, map, min, None, true, false, IfOk, IfSome, IsTrue};
+ghost use Rattle.std.specs.Int.{IsBitSet, bit_at};
 ghost use Rattle.crsm_port.specs.Meaning.{Packet};
 ghost use Rattle.crsm_port.specs.Passing.{NoMore, either};
-ghost use Rattle.crsm_port_flow.specs.Acks.{AllSay, SaysHearing};
-ghost use Rattle.crsm_port_flow.specs.Hears.{AreKnownBy, SaysHears};
+ghost use Rattle.crsm_port_flow.specs.Acks.{SaysHearing};
+ghost use Rattle.crsm_port_flow.specs.Hears.{AreKnownBy, IsHeard, SaysHeard, SaysHears, Tells, unheard};
 ghost use Rattle.crsm_port_flow.specs.Taken.{IsOfDeaf, IsPeer, IsSaid, IsStranger};
 ghost use Rattle.crsm_port_flow.specs.Waits.{SendsAll};
 
@@ -36,9 +36,13 @@ struct Peer {
 
 impl Peer {
     /// Returns whether a datagram of the peer came a moment ago.
-    fn is_heard(&self, now: u64) -> bool {
-        self.heard_at
-            .is_some_and(|at| is_recent(at, now, HEARD_FOR))
+    fn is_heard(&self, now: u64) -> bool
+        ensures { IsTrue result ↔ IsHeard now self.now }
+    {
+        match self.heard_at {
+            Some(at) => is_recent(at, now, HEARD_FOR),
+            None => false,
+        }
     }
 
     /// Records what the peer says: whether it hears this node.
@@ -83,9 +87,19 @@ fn has_bit(mask: u16, replica: usize) -> bool
     replica < 16 && mask >> replica & 1 == 1
 }
 
+/// Returns the mask with the bit of a replica set.
+fn with_bit(mask: u16, replica: usize) -> u16
+    requires { replica < 16 }
+    ensures set { bit_at result replica ≡ 1 }
+    ensures others { (k : ℕ) → k ≢ replica → bit_at result k ≡ bit_at mask k }
+{
+    mask | (1 << replica)
+}
+
 /// Returns whether the bytes say that their sender hears a replica, or `None` if they say nothing of hearing.
 fn hears_in(bytes: &[u8], replica: usize) -> Option<bool>
     ensures said { IfSome result (λ hears. IsSaid bytes.now × (IsTrue hears ↔ SaysHears replica bytes.now)) }
+    ensures nothing { result ≡ None → IsSaid bytes.now → ⊥ }
 {
     match bytes {
         [HEARING, high, low, ..] => { Some(has_bit(u16::from_be_bytes([*high, *low]), replica)) }
@@ -96,7 +110,9 @@ fn hears_in(bytes: &[u8], replica: usize) -> Option<bool>
 impl Hearing {
     /// Returns what replica `me` knows before the first datagram, where replica `k` has the address `peers[k]`.
     /// `NoMemory` if memory runs out.
-    pub(crate) fn new(alloc: Global, me: usize, peers: &[u64]) -> Result<Hearing, NoMemory> {
+    pub(crate) fn new(alloc: Global, me: usize, peers: &[u64]) -> Result<Hearing, NoMemory>
+        ensures { IfOk result (λ h. (h.me ≡ me) × (h.peers.items ≡ map unheard peers.now) × (h.said_at ≡ None)) }
+    {
         let mut known = Vec::with_capacity(alloc, peers.len())?;
         for address in peers {
             known.push(Peer {
@@ -118,8 +134,9 @@ impl Hearing {
         ensures peer { result ≡ Heard.Open → IsPeer from self.old.peers.items }
         ensures says { result ≡ Heard.Says → IsSaid bytes.now }
         ensures closed { result ≡ Heard.Closed → IsOfDeaf from self.old.peers.items }
-        ensures known { AreKnownBy self.old.me from bytes.now self.old.peers.items self.new.peers.items }
+        ensures known { AreKnownBy self.old.me from bytes.now now self.old.peers.items self.new.peers.items }
         ensures me { self.new.me ≡ self.old.me }
+        ensures said_at { self.new.said_at ≡ self.old.said_at }
     {
         let said = hears_in(bytes, self.me);
         let Some(place) = self.peers.iter().position(|peer| peer.address == from) else {
@@ -142,12 +159,12 @@ impl Hearing {
 
     /// Returns the datagram that says whom this node hears: a bit for each replica, replica 0 the lowest.
     fn saying(&self, now: u64) -> [u8; 3]
-        ensures { (mask : List ℕ) × (result ≡ 18 ∷ mask) }
+        ensures { SaysHeard now self.now.peers.items result }
     {
         let mut mask = 0u16;
         for (replica, peer) in self.peers.iter().enumerate() {
             if replica < 16 && peer.is_heard(now) {
-                mask |= 1 << replica;
+                mask = with_bit(mask, replica);
             }
         }
         let [high, low] = mask.to_be_bytes();
@@ -157,7 +174,7 @@ impl Hearing {
     /// Says to each peer whom this node hears, once a second.
     pub(crate) fn say<P: Port>(&mut self, now: u64, port: &mut P)
         ensures same { self.new ≡ record self.old { said_at = self.new.said_at } }
-        ensures said { (said : List Packet) × AllSay said × SendsAll said (P.meaning port.old) (P.meaning port.new) }
+        ensures said { (said : List Packet) × Tells now self.old self.new said × SendsAll said (P.meaning port.old) (P.meaning port.new) }
         ensures gives { NoMore (P.gives port.old) (P.gives port.new) }
         ensures sends { NoMore (either (P.may_send port.old) SaysHearing) (P.may_send port.new) }
     {

@@ -2,6 +2,7 @@
 
 ghost use Rattle.std.specs.Prelude.{◌≡◌, ◌≢◌, ◌⊎◌, [], IfOk, IfSome, IsSome, None, true};
 ghost use Rattle.crsm_port.specs.Passing.{NoMore};
+ghost use Rattle.crsm_port_flow.specs.Followed.{GoesBy};
 ghost use Rattle.crsm_port_flow.specs.Kept.{kept_in};
 ghost use Rattle.crsm_port_flow.specs.Order.{FirstGoes, IsNotDue, IsTheirTurn, LatestGoes, NextGoes, NoneGoes, OldestGoes};
 ghost use Rattle.crsm_port_flow.specs.Same.{SameKept, StaysWhenSent};
@@ -106,6 +107,7 @@ impl Inbound {
     pub(crate) fn note_sent(&mut self, bytes: &[u8])
         ensures rest { NoMore (kept_in self.old) (kept_in self.new) }
         ensures stays { StaysWhenSent self.old self.new }
+        ensures goes_by { GoesBy bytes.now self.old.peers self.new.peers }
         ensures answered { (c : Command) → IsReplyTo c bytes.now → IsAnswered c self.new.clients.requests.unanswered.entries }
     {
         if let Some(expected) = head_in(ACK, bytes) {

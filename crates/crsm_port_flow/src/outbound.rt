@@ -1,9 +1,9 @@
 //! Which datagrams are sent, and which were sent a moment ago.
 
-ghost use Rattle.std.specs.Prelude.{◌≡◌, [], false, IfOk};
+ghost use Rattle.std.specs.Prelude.{◌≡◌, [], All, false, IfOk};
 ghost use Rattle.crsm_port.specs.Passing.{OneMore};
 ghost use Rattle.crsm_port_flow.specs.Acks.{held_in};
-ghost use Rattle.crsm_port_flow.specs.Waits.{MayWait};
+ghost use Rattle.crsm_port_flow.specs.Waits.{HoldsStill, MayWait, Notes, NotesNone};
 ghost use Rattle.crsm_port_flow.specs.Windows.{IsBehind};
 
 use crate::acks::LastAcks;
@@ -26,7 +26,9 @@ pub(crate) struct Outbound {
 impl Outbound {
     /// Returns a state in which nothing was sent, or `NoMemory` if memory runs out.
     pub(crate) fn new(alloc: Global) -> Result<Outbound, NoMemory>
-        ensures { IfOk result (λ o. o.acks.acks.items ≡ []) }
+        ensures acks { IfOk result (λ o. o.acks.acks.items ≡ []) }
+        ensures frames { IfOk result (λ o. All (λ f. f.at ≡ 0) o.repeats.last.items) }
+        ensures parts { IfOk result (λ o. All (λ p. p.at ≡ 0) o.parts.last.items) }
     {
         Ok(Outbound {
             acks: LastAcks::new(alloc)?,
@@ -40,7 +42,9 @@ impl Outbound {
     /// not go out again.
     pub(crate) fn may_go(&mut self, to: u64, bytes: &[u8], now: u64) -> bool
         ensures held { OneMore to bytes.now (held_in self.old.acks.acks.items) (held_in self.new.acks.acks.items) }
-        ensures later { result ≡ false → MayWait to bytes.now now self.old self.new }
+        ensures later { result ≡ false → MayWait to bytes.now now self.old self.new × NotesNone self.old self.new }
+        ensures noted { Notes to bytes.now now self.old self.new }
+        ensures still { HoldsStill to bytes.now self.old self.new }
     {
         if let Some(frame) = head_in(FRAME, bytes) {
             self.window.note_sent(frame, now);
@@ -49,12 +53,16 @@ impl Outbound {
         if let Some(part) = part_in(bytes) {
             return self.parts.may_go(to, part, now);
         }
-        head_in(ACK, bytes).is_none() || !self.acks.hold(to, bytes)
+        match head_in(ACK, bytes) {
+            Some(_) => !self.acks.hold(to, bytes),
+            None => true,
+        }
     }
 
     /// Records what a received acknowledgement says.
     pub(crate) fn note_received(&mut self, bytes: &[u8], now: u64)
-        ensures { self.new.acks ≡ self.old.acks }
+        ensures acks { self.new.acks ≡ self.old.acks }
+        ensures noted { NotesNone self.old self.new }
     {
         if let Some(ack) = head_in(ACK, bytes) {
             self.repeats.note_expected(ack, now);

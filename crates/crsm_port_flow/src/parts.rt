@@ -1,6 +1,6 @@
 //! Parts of control messages that were sent recently.
 
-ghost use Rattle.std.specs.Prelude.{◌≡◌, false};
+ghost use Rattle.std.specs.Prelude.{◌≡◌, All, IfOk, false};
 ghost use Rattle.crsm_port_flow.specs.Went.{NotesPart, PartWentLately, checksum};
 
 use crate::time::is_recent;
@@ -46,7 +46,9 @@ fn sum_of(to: u64, part: &[u8]) -> u64
 
 impl RecentParts {
     /// Returns an empty record, or `NoMemory` if memory runs out.
-    pub(crate) fn new(alloc: Global) -> Result<RecentParts, NoMemory> {
+    pub(crate) fn new(alloc: Global) -> Result<RecentParts, NoMemory>
+        ensures { IfOk result (λ r. All (λ p. p.at ≡ 0) r.last.items) }
+    {
         let never = SentPart { sum: 0, at: 0 };
         Ok(RecentParts {
             last: Vec::from_elem(alloc, never, REMEMBERED)?,
@@ -58,6 +60,7 @@ impl RecentParts {
     pub(crate) fn may_go(&mut self, to: u64, part: &[u8], now: u64) -> bool
         ensures held { result ≡ false → PartWentLately (checksum to part.now) now self.old.last.items }
         ensures noted { NotesPart (checksum to part.now) now self.old.last.items self.new.last.items }
+        ensures not { result ≡ false → self.new.last.items ≡ self.old.last.items }
     {
         let sum = sum_of(to, part);
         let place = (sum % REMEMBERED as u64) as usize;

@@ -36,7 +36,7 @@ impl FromPeers {
     ghost use Rattle.std.specs.Prelude.{◌⊎◌, ◌++◌, [], ◌∷◌, IfOk, IfSome, IsErrOf, OnErr, OnOk, None};
     ghost use Rattle.crsm_port.specs.Passing.{NoMore};
     ghost use Rattle.crsm_port_flow.specs.Early.{WaitsAs, kept_at};
-    ghost use Rattle.crsm_port_flow.specs.Followed.{Follow, IsFollowed, IsFollowedFrom, NoneLost};
+    ghost use Rattle.crsm_port_flow.specs.Followed.{Follow, IsExpectedOf, IsFollowed, IsFollowedFrom, LosesPast, NoneLost};
     ghost use Rattle.crsm_port_flow.specs.Heads.{HasHead};
     ghost use Rattle.crsm_port_flow.specs.Kept.{Is, KeepsOnly, of_peers};
     ghost use Rattle.crsm_port_flow.specs.Lost.{HasNoRoomOfPeers, IsFullOfPeers};
@@ -174,6 +174,8 @@ impl FromPeers {
     /// Records the sequence number that this replica expects next from another, and makes the frames ready that have
     /// waited for those before it.
     pub(crate) fn note_expected(&mut self, expected: Head)
+        ensures lost { LosesPast expected.to expected.epoch expected.number self.old self.new }
+        ensures expected { IsExpectedOf expected.to expected.epoch expected.number self.old self.new }
         ensures stays { StaysReady self.old.ready.items self.new.ready.items }
         ensures only { NoMore (of_peers self.old) (of_peers self.new) }
     {

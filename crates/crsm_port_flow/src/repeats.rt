@@ -1,6 +1,6 @@
 //! Frames that were sent recently, and the frames that replicas expect.
 
-ghost use Rattle.std.specs.Prelude.{◌≡◌, ◌↔◌, ◌≤◌, IsTrue, false};
+ghost use Rattle.std.specs.Prelude.{◌≡◌, ◌↔◌, ◌≤◌, All, IfOk, IsTrue, false};
 ghost use Rattle.crsm_port_flow.specs.Went.{IsFrame, NotesOnly, WentLately};
 
 use crate::heads::Head;
@@ -148,16 +148,25 @@ fn place_of(frame: Head) -> usize {
     usize::from(frame.to) % REPLICAS * WINDOW + (frame.number % WINDOW as u64) as usize
 }
 
+/// Returns the places of frames that were sent, in which none was. `NoMemory` if memory runs out.
+fn none_sent(alloc: Global) -> Result<Vec<SentFrame>, NoMemory>
+    ensures { IfOk result (λ last. All (λ f. f.at ≡ 0) last.items) }
+{
+    let never = SentFrame {
+        to: u8::MAX,
+        epoch: u64::MAX,
+        number: u64::MAX,
+        at: 0,
+        again: 0,
+    };
+    Ok(Vec::from_elem(alloc, never, REPLICAS * WINDOW)?)
+}
+
 impl Repeats {
     /// Returns an empty record, or `NoMemory` if memory runs out.
-    pub(crate) fn new(alloc: Global) -> Result<Repeats, NoMemory> {
-        let never = SentFrame {
-            to: u8::MAX,
-            epoch: u64::MAX,
-            number: u64::MAX,
-            at: 0,
-            again: 0,
-        };
+    pub(crate) fn new(alloc: Global) -> Result<Repeats, NoMemory>
+        ensures { IfOk result (λ r. All (λ f. f.at ≡ 0) r.last.items) }
+    {
         let nothing = Expected {
             epoch: u64::MAX,
             next: 0,
@@ -165,7 +174,7 @@ impl Repeats {
             delay: 0,
         };
         Ok(Repeats {
-            last: Vec::from_elem(alloc, never, REPLICAS * WINDOW)?,
+            last: none_sent(alloc)?,
             expected: Vec::from_elem(alloc, nothing, REPLICAS)?,
         })
     }
@@ -200,6 +209,7 @@ impl Repeats {
     pub(crate) fn may_go(&mut self, frame: Head, now: u64) -> bool
         ensures held { result ≡ false → WentLately frame.to frame.epoch frame.number now self.old.last.items }
         ensures noted { NotesOnly frame.to frame.epoch frame.number now self.old.last.items self.new.last.items }
+        ensures not { result ≡ false → self.new.last.items ≡ self.old.last.items }
     {
         let (need, delay) = self.need(frame);
         let Some(last) = self.last.get_mut(place_of(frame)) else {

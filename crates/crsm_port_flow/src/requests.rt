@@ -2,7 +2,7 @@
 
 ghost use Rattle.std.specs.Prelude.{◌≡◌, ◌⊎◌, ◌++◌, ◌∷◌, ◌<◌, ◌≤◌, [], length, true, false, None, Some, IfOk, IfSome};
 ghost use Rattle.std.specs.VecDeque.{deque_capacity};
-ghost use Rattle.crsm_port_flow.specs.Turns.{AreInTime, IsAnswered, IsOldestYoung, IsOver, IsSince, IsUnderWay, OthersStay, TakesFirst, reading_of};
+ghost use Rattle.crsm_port_flow.specs.Turns.{AreInTime, CountsOneMore, IsWaiting, LeavesSome, IsAnswered, IsOldestYoung, IsOver, IsSince, IsUnderWay, OthersStay, TakesFirst, reading_of};
 
 use crate::commands::Command;
 use crate::datagram::Datagram;
@@ -81,7 +81,7 @@ impl Requests {
 
     /// Returns what becomes of a received request.
     pub(crate) fn fate(&self, command: Command, now: u64) -> RequestFate
-        ensures repeat { result ≡ RequestFate.IsUnderWay → IsUnderWay command now self.now.waits.entries self.now.unanswered.entries }
+        ensures repeat { result ≡ RequestFate.IsUnderWay → IsUnderWay command now self.now.waiting.items self.now.unanswered.entries }
         ensures full { result ≡ RequestFate.HasNoRoom → 1_280 ≤ length self.now.waiting.items }
         ensures waits { result ≡ RequestFate.Waits → length self.now.waiting.items < 1_280 }
     {
@@ -96,10 +96,27 @@ impl Requests {
 
     /// Returns whether a command waits or has no reply, and not for too long.
     fn is_under_way(&self, command: Command, now: u64) -> bool
-        ensures { result ≡ true → IsUnderWay command now self.now.waits.entries self.now.unanswered.entries }
+        ensures { result ≡ true → IsUnderWay command now self.now.waiting.items self.now.unanswered.entries }
     {
-        is_since(&self.waits, command, now, WAITING_TIME)
-            || is_since(&self.unanswered, command, now, OPEN_TIME)
+        self.is_waiting(command, now) || is_since(&self.unanswered, command, now, OPEN_TIME)
+    }
+
+    /// Returns whether a command waits, and not for too long.
+    fn is_waiting(&self, command: Command, now: u64) -> bool
+        ensures { result ≡ true → IsWaiting command now self.now.waiting.items }
+    {
+        if !is_since(&self.waits, command, now, WAITING_TIME) {
+            return false;
+        }
+        for index in 0..self.waiting.len() {
+            let Some(request) = self.waiting.get(index) else {
+                return false;
+            };
+            if request.command == command && is_recent(request.since, now, WAITING_TIME) {
+                return true;
+            }
+        }
+        false
     }
 
     /// Appends a request to those that wait, of which there are fewer than 1,280.
@@ -137,6 +154,7 @@ impl Requests {
         ensures same { self.new.waiting ≡ self.old.waiting }
         ensures waits { result ≡ true → self.new.waiting.items ≡ [] → ⊥ }
         ensures none { result ≡ false → (self.new.waiting.items ≡ []) ⊎ HasNoRoom now self.new }
+        ensures leaves { LeavesSome self.old.unanswered.entries self.new.unanswered.entries }
     {
         !self.waiting.is_empty() && (self.waiting.len() > MOST_WAITING || self.has_room(now))
     }
@@ -145,6 +163,7 @@ impl Requests {
     fn has_room(&mut self, now: u64) -> bool
         ensures same { self.new.waiting ≡ self.old.waiting }
         ensures none { result ≡ false → HasNoRoom now self.new }
+        ensures leaves { LeavesSome self.old.unanswered.entries self.new.unanswered.entries }
     {
         if self.unanswered.len() >= MOST_OPEN {
             self.forget_old(now);
@@ -157,6 +176,7 @@ impl Requests {
         ensures same { self.new.waiting ≡ self.old.waiting }
         ensures items { self.new.waiting.items ≡ self.old.waiting.items }
         ensures oldest { IsOldestYoung now self.new.opened.items self.new.unanswered.entries }
+        ensures leaves { LeavesSome self.old.unanswered.entries self.new.unanswered.entries }
     {
         while let Some(oldest) = self.opened.front() {
             let Opened { command, since } = *oldest;
@@ -185,6 +205,7 @@ impl Requests {
     /// Removes the oldest waiting request, and returns its datagram. The node has its command from now on.
     pub(crate) fn take(&mut self, now: u64) -> Option<Datagram>
         ensures first { IfSome result (λ d. TakesFirst d self.old.waiting.items self.new.waiting.items) }
+        ensures counts { IfSome result (λ d. (r : Waiting) × (self.old.waiting.items ≡ r ∷ self.new.waiting.items) × CountsOneMore r.command now self.old.unanswered.entries self.new.unanswered.entries) }
         ensures none { result ≡ None → (self.old.waiting.items ≡ []) × (self.new.waiting.items ≡ []) }
     {
         self.forget_old(now);
@@ -200,7 +221,8 @@ impl Requests {
 
     /// Records that the node has a command from now on.
     fn note_opened(&mut self, command: Command, now: u64)
-        ensures { self.new.waiting.items ≡ self.old.waiting.items }
+        ensures waiting { self.new.waiting.items ≡ self.old.waiting.items }
+        ensures counts { CountsOneMore command now self.old.unanswered.entries self.new.unanswered.entries }
     {
         let opened = Opened {
             command,

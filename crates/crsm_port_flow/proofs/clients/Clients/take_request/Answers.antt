@@ -1,6 +1,5 @@
 use Rattle.std.proofs.Common.{inl, refl}
 use Rattle.crsm_port_flow.proofs.Keepings.{request_kept}
-use Rattle.crsm_port_flow.specs.declared.clients.Clients.{Clients}
 use Rattle.crsm_port_flow.specs.declared.requests.Waiting.{Waiting}
 use Rattle.crsm_port_flow.proofs.clients.Clients.take_request.Goals as goal
 
@@ -13,5 +12,4 @@ pub returns-in_ok-datagram-in-Waits-clause-only : goal.returns-in_ok-datagram-in
 returns-in_ok-datagram-in-Waits-clause-only c =
     let r : Waiting = record { command = c.in-Some.command; datagram = c.in_ok-datagram-in-Waits.datagram; since = c.args.now } in
     let old = c.args.self.now in
-    let new : Clients = record old { requests = c.keep.new.self } in
-    request_kept c.args.from c.args.bytes.now r old new c.in_ok-datagram-in-Waits.ensures.kept refl c.keep.ensures.last
+    request_kept c.args.from c.args.bytes.now r old.requests.waiting.items c.keep.new.self.waiting.items old.operate old.operate c.in_ok-datagram-in-Waits.ensures.kept refl c.keep.ensures.last

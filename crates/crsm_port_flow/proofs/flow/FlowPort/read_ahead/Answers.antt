@@ -6,7 +6,7 @@ use Rattle.crsm_port_flow.proofs.flow.FlowPort.read_ahead.Goals as goal
 pub loop-init : goal.loop-init
 loop-init g c =
     let p = c.args.self.now in
-    record { gives = λ a b h. h; sends = λ a b h. h; counts = refl; acks = refl; takes = none_came p.now (state_of (g.P.Port.meaning p.port) p); failed = refl; now = refl }
+    record { gives = λ a b h. h; sends = λ a b h. h; counts = refl; acks = refl; noted = (refl, refl); takes = none_came p.now (state_of (g.P.Port.meaning p.port) p); failed = refl; now = refl }
 
 pub loop-preserved : goal.loop-preserved
 loop-preserved g c =
@@ -21,6 +21,7 @@ loop-preserved g c =
       sends = λ a b h. inv.sends a b (e.sends a b h);
       counts = e.counts ∙ inv.counts;
       acks = e.acks ∙ inv.acks;
+      noted = (e.noted.0 ∙ inv.noted.0, e.noted.1 ∙ inv.noted.1);
       takes = read.0;
       failed = read.1;
       now = e.now ∙ inv.now;

@@ -79,22 +79,22 @@ pub returns-in-Open-clause-known : goal.returns-in-Open-clause-known
 returns-in-Open-clause-known g c =
     let s = c.args.self.now in
     let same : c.in-Some.bytes.now ≡ take c.args.len s.room.items = grind (arith, common_steps, c.in-Some.ensures.lookup, c.deref.ensures.value) in
-    subst (λ (b : List ℕ). AreKnownBy s.hearing.me c.args.from b s.hearing.peers.items c.note.new.self.peers.items) same c.note.ensures.known
+    subst (λ (b : List ℕ). AreKnownBy s.hearing.me c.args.from b s.now s.hearing.peers.items c.note.new.self.peers.items) same c.note.ensures.known
 
 pub returns-in-Stranger-clause-known : goal.returns-in-Stranger-clause-known
 returns-in-Stranger-clause-known g c =
     let s = c.args.self.now in
     let same : c.in-Some.bytes.now ≡ take c.args.len s.room.items = grind (arith, common_steps, c.in-Some.ensures.lookup, c.deref.ensures.value) in
-    subst (λ (b : List ℕ). AreKnownBy s.hearing.me c.args.from b s.hearing.peers.items c.note.new.self.peers.items) same c.note.ensures.known
+    subst (λ (b : List ℕ). AreKnownBy s.hearing.me c.args.from b s.now s.hearing.peers.items c.note.new.self.peers.items) same c.note.ensures.known
 
 pub returns-in-Closed-clause-known : goal.returns-in-Closed-clause-known
 returns-in-Closed-clause-known g c =
     let s = c.args.self.now in
     let same : c.in-Some.bytes.now ≡ take c.args.len s.room.items = grind (arith, common_steps, c.in-Some.ensures.lookup, c.deref.ensures.value) in
-    subst (λ (b : List ℕ). AreKnownBy s.hearing.me c.args.from b s.hearing.peers.items c.note.new.self.peers.items) same c.note.ensures.known
+    subst (λ (b : List ℕ). AreKnownBy s.hearing.me c.args.from b s.now s.hearing.peers.items c.note.new.self.peers.items) same c.note.ensures.known
 
 pub returns-in-Says-clause-known : goal.returns-in-Says-clause-known
 returns-in-Says-clause-known g c =
     let s = c.args.self.now in
     let same : c.in-Some.bytes.now ≡ take c.args.len s.room.items = grind (arith, common_steps, c.in-Some.ensures.lookup, c.deref.ensures.value) in
-    subst (λ (b : List ℕ). AreKnownBy s.hearing.me c.args.from b s.hearing.peers.items c.note.new.self.peers.items) same c.note.ensures.known
+    subst (λ (b : List ℕ). AreKnownBy s.hearing.me c.args.from b s.now s.hearing.peers.items c.note.new.self.peers.items) same c.note.ensures.known
