@@ -5,7 +5,7 @@ use Rattle.std.specs.Prelude.{◌⊎◌, Contains, Result, slice_index_or}
 use Rattle.crsm_base.specs.declared.memory.Failed.{Failed}
 use Rattle.crsm_port.specs.Meaning.{Meaning, Packet, Sends}
 use Rattle.crsm_port_packets.specs.Given.{AllGreet, LetsGo, SendsAll}
-use Rattle.crsm_port_packets.specs.Peers.{SamePeers, addresses_of}
+use Rattle.crsm_port_packets.specs.Peers.{IsPeer, SamePeers, addresses_of}
 use Rattle.crsm_port_packets.specs.declared.peer.Peer.{Peer}
 use Rattle.crsm_port_packets.proofs.Goings.{let_go_both, sends_both}
 
@@ -91,3 +91,15 @@ port_goes M before after to goes = elim goes [
   | inl same ↦ inl (ap M same)
   | inr w ↦ inr w
 ]
+
+-- ---- addresses
+
+pub peer_of : (peers : List Peer) (from : ℕ) → Contains (addresses_of peers) from → IsPeer from peers
+peer_of [] from (k, lt, is) = absurd (omega (arith, lt))
+peer_of (p ∷ peers) from (zero, lt, is) = (p, (zero, omega arith, refl), is)
+peer_of (p ∷ peers) from (suc k, lt, is) = let (q, (i, within, at), same) = peer_of peers from (k, omega (arith, lt), is) in (q, (suc i, omega (arith, within), at), same)
+
+pub set_address : (peers : List Peer) (k : ℕ) (p q : Peer) → p ≡ slice_index_or peers k p → q.address ≡ p.address → addresses_of (set peers k q) ≡ addresses_of peers
+set_address [] k p q at same = refl
+set_address (x ∷ peers) zero p q at same = ap (λ (a : ℕ). a ∷ addresses_of peers) (same ∙ ap (λ (y : Peer). y.address) at)
+set_address (x ∷ peers) (suc k) p q at same = ap (λ (places : List ℕ). x.address ∷ places) (set_address peers k p q at same)

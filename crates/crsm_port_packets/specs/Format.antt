@@ -31,6 +31,10 @@ pub data StandsIn (d : List ℕ) : List ℕ → Type 0 where
   first : {entries rest : List ℕ} → entry_at entries ≡ Some (d, rest) → StandsIn d entries
   later : {entries other rest : List ℕ} → entry_at entries ≡ Some (other, rest) → StandsIn d rest → StandsIn d entries
 
+-- the packet is no bundle
+abbrev pub IsNoBundle : List ℕ → Type 0
+IsNoBundle packet = (entries : List ℕ) → packet ≡ 17 ∷ 0 ∷ entries → ⊥
+
 -- ---- fragments: the byte 17, the kind 1, the datagram's number, the index, the count, and bytes
 
 pub record FragmentFields : Type 0 where
@@ -50,4 +54,4 @@ IsFragment packet f = (rest : List ℕ) × (packet ≡ 17 ∷ 1 ∷ rest) × (u6
 abbrev pub IsOfKind : List ℕ → PacketKind → Type 0
 IsOfKind packet (kinds.Bundle entries) = packet ≡ 17 ∷ 0 ∷ entries.now
 IsOfKind packet (kinds.Fragment f) = IsFragment packet (fields_of f)
-IsOfKind packet kinds.Other = Unit {0}
+IsOfKind packet kinds.Other = IsNoBundle packet

@@ -1,3 +1,4 @@
+pub mod Asking
 pub mod Carrying
 pub mod Cutting
 pub mod Format

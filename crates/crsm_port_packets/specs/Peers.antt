@@ -5,6 +5,10 @@ use Rattle.crsm_port_packets.specs.declared.peer.Peer.{Peer}
 abbrev pub addresses_of : List Peer → List ℕ
 addresses_of peers = map (λ (p : Peer). p.address) peers
 
+-- one of the peers has this address
+abbrev pub IsPeer : ℕ → List Peer → Type 0
+IsPeer from peers = (p : Peer) × Contains peers p × (p.address ≡ from)
+
 -- there is such a reading, and less than `span` microseconds have passed since
 abbrev pub IsSince : Option ℕ → ℕ → ℕ → Type 0
 IsSince since now span = (at : ℕ) × (since ≡ Some at) × (at ≤ now) × (now < at + span)

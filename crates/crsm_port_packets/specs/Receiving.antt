@@ -1,38 +1,51 @@
--- Which packets the port below hands up until a datagram goes up.
-use Rattle.std.specs.Prelude.{◌≡◌, ◌⊎◌, ◌≤◌, ℕ, zero, suc, List, take, true, Option, Some, None, Result, Ok, Err}
-use Rattle.crsm_base.specs.declared.memory.Failed.{Failed}
-use Rattle.crsm_port.specs.Meaning.{Meaning, Receives}
+-- What becomes of a packet that came up.
+use Rattle.std.specs.Prelude.{◌≡◌, ◌⊎◌, ℕ, List, ◌∷◌, length, min, take, drop, Contains, false, true, Some, None}
 use Rattle.crsm_port.specs.declared.port.Recv.{Recv}
 use Rattle.crsm_port.specs.declared.port.Recv.TheVariants.{Nothing, Datagram}
-use Rattle.crsm_port_packets.specs.Format.{is_packed}
-
--- the port below is asked, and answers this
-abbrev pub Answers : Result Recv Failed → Meaning → Meaning → Type 0
-Answers answer old new = (before after : List ℕ) × Receives old new before after answer
+use Rattle.crsm_port_faults.specs.Counts.{Rose}
+use Rattle.crsm_port_packets.specs.Format.{IsNoBundle, entry_at, is_packed}
+use Rattle.crsm_port_packets.specs.declared.received.Received.{Received}
+use Rattle.crsm_port_packets.specs.declared.unpacking.Unpacking.{Unpacking}
 
 -- it is a datagram
 abbrev pub IsDatagram : Recv → Type 0
 IsDatagram Nothing = ⊥
 IsDatagram (Datagram from len) = Unit {0}
 
--- it hands up a packet with the byte 17: a bundle, or a fragment
-abbrev pub PacketComes : Meaning → Meaning → Type 0
-PacketComes old new = (before after : List ℕ) × (from len : ℕ) × Receives old new before after (Ok (Datagram from len)) × (is_packed (take len after) ≡ true)
+-- the datagram goes up, cut to so many bytes
+abbrev pub GoesUp : ℕ → List ℕ → (most : ℕ) → List ℕ → Recv → Type 0
+GoesUp from bytes most after Nothing = ⊥
+GoesUp from bytes most after (Datagram address len) = (address ≡ from) × (len ≡ min most (length bytes)) × (take len after ≡ take len bytes)
 
--- it hands up so many
-abbrev pub PacketsCome : ℕ → Meaning → Meaning → Type 0
-PacketsCome zero old new = new ≡ old
-PacketsCome (suc n) old new = (between : Meaning) × PacketsCome n old between × PacketComes between new
+-- ---- the bundle that is being taken apart
 
--- one question: the next datagram of a bundle goes up, or the port below is asked, and answers so or hands up what goes up or gives no datagram yet
-abbrev pub Asks : Meaning → Meaning → Result (Option Recv) Failed → Type 0
-Asks old new (Ok None) = PacketComes old new
-Asks old new (Ok (Some Nothing)) = Answers (Ok Nothing) old new
-Asks old new (Ok (Some (Datagram from len))) = (new ≡ old) ⊎ ((address size : ℕ) × Answers (Ok (Datagram address size)) old new)
-Asks old new (Err e) = Answers (Err e) old new
+-- its entries from the next datagram on
+abbrev pub left_in : Unpacking → List ℕ
+left_in u = drop u.next u.entries.items
 
--- a receive: after packets that give no datagram yet it ends with a datagram that goes up, or with none where the port below has none or 64 came, or as failed where the port below fails
-abbrev pub AsksUntil : Meaning → Meaning → Result Recv Failed → Type 0
-AsksUntil old new (Ok Nothing) = (n : ℕ) × (last : Meaning) × PacketsCome n old last × (Answers (Ok Nothing) last new ⊎ ((new ≡ last) × (64 ≤ n)))
-AsksUntil old new (Ok (Datagram from len)) = (n : ℕ) × (last : Meaning) × PacketsCome n old last × Asks last new (Ok (Some (Datagram from len)))
-AsksUntil old new (Err e) = (n : ℕ) × (last : Meaning) × PacketsCome n old last × Answers (Err e) last new
+-- no datagram of it is left
+abbrev pub NoneLeft : Unpacking → Type 0
+NoneLeft u = entry_at (left_in u) ≡ None
+
+-- its next datagram goes up
+abbrev pub TakesNext : Unpacking → Unpacking → (most : ℕ) → List ℕ → Recv → Type 0
+TakesNext old new most after got = (d rest : List ℕ) × (entry_at (left_in old) ≡ Some (d, rest)) × (left_in new ≡ rest) × (new.from ≡ old.from) × GoesUp old.from d most after got
+
+-- it begins with these entries
+abbrev pub Begins : ℕ → List ℕ → Unpacking → Type 0
+Begins from entries u = (u.from ≡ from) × (left_in u ≡ entries)
+
+-- ---- a packet
+
+-- a packet of a peer that gives no datagram yet: a bundle is taken apart from then on, or is counted as one for which there was no memory
+abbrev pub IsOpened : ℕ → List ℕ → Received → Received → Type 0
+IsOpened from packet old new =
+    ((entries : List ℕ) × (packet ≡ 17 ∷ 0 ∷ entries) × (Begins from entries new.unpacking ⊎ Rose old.unkept new.unkept)) ⊎ (IsNoBundle packet × (new.unpacking ≡ old.unpacking))
+
+-- it is taken from those with these addresses alone
+abbrev pub IsOpenedOf : List ℕ → ℕ → List ℕ → Received → Received → Type 0
+IsOpenedOf addresses from packet old new = (Contains addresses from × IsOpened from packet old new) ⊎ ((Contains addresses from → ⊥) × (new ≡ old))
+
+-- a datagram that is a packet as it is goes up; other packets have the byte 17
+abbrev pub IsAsItIs : ℕ → List ℕ → (most : ℕ) → List ℕ → Recv → Type 0
+IsAsItIs from packet most after got = ((is_packed packet ≡ false) × GoesUp from packet most after got) ⊎ (is_packed packet ≡ true)

@@ -4,10 +4,10 @@
 //! - kind 1: a fragment of a datagram: the datagram's number, a u64; the index of the fragment and their count, a u8
 //!   each; and the fragment's bytes.
 
-ghost use Rattle.std.specs.Prelude.{◌≡◌, ◌+◌, ◌++◌, ◌∷◌, [], IfSome, Some, drop, length};
+ghost use Rattle.std.specs.Prelude.{◌≡◌, ◌+◌, ◌++◌, ◌∷◌, [], IfSome, None, Some, drop, length};
 ghost use Rattle.crsm_base.specs.Reading.{u64_at};
 ghost use Rattle.crsm_base.specs.Spelling.{u64_bytes};
-ghost use Rattle.crsm_port_packets.specs.Format.{IsOfKind, entry_at, is_packed};
+ghost use Rattle.crsm_port_packets.specs.Format.{IsFragment, IsNoBundle, IsOfKind, entry_at, fields_of, is_packed};
 
 use crsm_text_fields::take_u64;
 
@@ -71,13 +71,33 @@ pub(crate) fn is_packed(packet: &[u8]) -> bool
 pub(crate) fn kind_of(packet: &[u8]) -> PacketKind<'_>
     ensures { IsOfKind packet.now result }
 {
-    match packet {
-        [PACKET_BYTE, BUNDLE, entries @ ..] => PacketKind::Bundle(entries),
-        [PACKET_BYTE, FRAGMENT, rest @ ..] => match fragment_of(rest) {
+    match bundle_in(packet) {
+        Some(entries) => PacketKind::Bundle(entries),
+        None => match fragment_in(packet) {
             Some(fragment) => PacketKind::Fragment(fragment),
             None => PacketKind::Other,
         },
-        _ => PacketKind::Other,
+    }
+}
+
+/// Returns the datagrams of a bundle, each after its length, if the packet is one.
+fn bundle_in(packet: &[u8]) -> Option<&[u8]>
+    ensures some { IfSome result (λ entries. packet.now ≡ 17 ∷ 0 ∷ entries.now) }
+    ensures none { result ≡ None → IsNoBundle packet.now }
+{
+    match packet {
+        [PACKET_BYTE, BUNDLE, entries @ ..] => Some(entries),
+        _ => None,
+    }
+}
+
+/// Returns the fragment that the packet is, if it is one.
+fn fragment_in(packet: &[u8]) -> Option<Fragment<'_>>
+    ensures { IfSome result (λ f. IsFragment packet.now (fields_of f)) }
+{
+    match packet {
+        [PACKET_BYTE, FRAGMENT, rest @ ..] => fragment_of(rest),
+        _ => None,
     }
 }
 
@@ -110,6 +130,7 @@ pub(crate) fn first_entry(entries: &[u8]) -> Option<(&[u8], &[u8])>
     ensures first { IfSome result (λ e. entry_at entries.now ≡ Some (e.0.now, e.1.now)) }
     ensures rest { IfSome result (λ e. e.1.now ≡ drop (2 + length e.0.now) entries.now) }
     ensures len { IfSome result (λ e. 2 + length e.0.now + length e.1.now ≡ length entries.now) }
+    ensures none { result ≡ None → entry_at entries.now ≡ None }
 {
     match entries {
         [high, low, rest @ ..] => {

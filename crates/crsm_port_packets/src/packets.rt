@@ -1,6 +1,6 @@
 //! `PacketsPort`: packets of a size that networks carry whole.
 
-ghost use Rattle.std.specs.Prelude.{◌≡◌, ◌≤◌, ◌⊎◌, List, [], map, None, false, true, take, IfOk, IfSome, OnErr, OnOk, length, vec_capacity};
+ghost use Rattle.std.specs.Prelude.{◌≡◌, ◌≤◌, ◌⊎◌, List, [], map, Contains, None, false, true, take, IfOk, IfSome, OnErr, OnOk, length, vec_capacity};
 ghost use Rattle.crsm_clock.specs.Readings.{Gives};
 ghost use Rattle.crsm_port.specs.Meaning.{CountsEmpty, IsWithin, Meaning, Packet, Receives, Reserves, Sends};
 ghost use Rattle.crsm_port.specs.Passing.{HandsUp, IsOf, NoMore, OneMore, Only, PassesOn, Rests, either};
@@ -12,8 +12,8 @@ ghost use Rattle.crsm_port_packets.specs.Cutting.{AreApart, AreOfCuts, CutDatagr
 ghost use Rattle.crsm_port_packets.specs.Format.{is_packed};
 ghost use Rattle.crsm_port_packets.specs.Given.{AllGreet, LetsGo, LetsGoAndGreets, MayLetGo, SendsAll};
 ghost use Rattle.crsm_port_packets.specs.Held.{Opens, fragments_with, unpacked};
-ghost use Rattle.crsm_port_packets.specs.Peers.{SamePeers, Speaks, addresses_of, unheard};
-ghost use Rattle.crsm_port_packets.specs.Receiving.{Asks, AsksUntil, IsDatagram};
+ghost use Rattle.crsm_port_packets.specs.Peers.{IsPeer, SamePeers, Speaks, addresses_of, unheard};
+ghost use Rattle.crsm_port_packets.specs.Receiving.{IsAsItIs, IsDatagram, IsOpenedOf, NoneLeft};
 ghost use Rattle.crsm_port_packets.specs.Sent.{sent_with};
 
 use crate::bundle::send_waiting;
@@ -120,14 +120,21 @@ fn front(room: &[u8], len: usize) -> &[u8]
     &room[..len]
 }
 
-/// Returns the peer with this address, or `None`.
-fn peer_at(peers: &mut Vec<Peer>, address: u64) -> Option<&mut Peer> {
-    for peer in peers {
-        if peer.address == address {
-            return Some(peer);
-        }
-    }
-    None
+/// Records that a packet with the byte 17 came from this address, and returns whether it is a peer's.
+fn note_heard(peers: &mut Vec<Peer>, from: u64, now: u64) -> bool
+    ensures peer { result ≡ true → Contains (addresses_of peers.old.items) from }
+    ensures stranger { result ≡ false → IsPeer from peers.old.items → ⊥ }
+    ensures still { result ≡ false → peers.new.items ≡ peers.old.items }
+    ensures addresses { addresses_of peers.new.items ≡ addresses_of peers.old.items }
+{
+    let Some(place) = peers.iter().position(|peer| peer.address == from) else {
+        return false;
+    };
+    let Some(peer) = peers.get_mut(place) else {
+        return false;
+    };
+    peer.note_heard(now);
+    true
 }
 
 /// Sends the datagrams that wait for peers, in packets.
@@ -165,6 +172,7 @@ fn greet_each<P: Port>(peers: &mut [Peer], now: u64, port: &mut P)
 }
 
 impl<P: Port, C: Clock> PacketsPort<P, C> {
+    ghost use Rattle.crsm_port_packets.specs.Asking.{Asks, AsksUntil, taker_of};
     ghost use Rattle.crsm_port_packets.specs.Sending.{IsKept, IsLostBelow, IsPassedOn, IsRefused, SendsCutFrom, sender_of};
 
     /// Sends the datagrams that wait.
@@ -199,7 +207,8 @@ impl<P: Port, C: Clock> PacketsPort<P, C> {
         ensures sends { NoMore (P.may_send self.old.port) (P.may_send self.new.port) }
         ensures waiting { self.new.waiting ≡ self.old.waiting }
         ensures same { self.new ≡ record self.old { port = self.new.port; peers = self.new.peers; room = self.new.room; received = self.new.received } }
-        ensures asks { AsksUntil (P.meaning self.old.port) (P.meaning self.new.port) result }
+        ensures asks { AsksUntil (addresses_of self.old.peers.items) (length buf.old) buf.new (taker_of (P.meaning self.old.port) self.old) (taker_of (P.meaning self.new.port) self.new) result }
+        ensures addresses { addresses_of self.new.peers.items ≡ addresses_of self.old.peers.items }
     {
         for _ in 0..MOST_EMPTY {
             if let Some(got) = self.next_or_none(buf)? {
@@ -217,7 +226,8 @@ impl<P: Port, C: Clock> PacketsPort<P, C> {
         ensures rest { NoMore (unpacked (P.gives self.old.port) self.old.received) (unpacked (P.gives self.new.port) self.new.received) }
         ensures sends { NoMore (P.may_send self.old.port) (P.may_send self.new.port) }
         ensures same { self.new ≡ record self.old { port = self.new.port; peers = self.new.peers; room = self.new.room; received = self.new.received } }
-        ensures asks { Asks (P.meaning self.old.port) (P.meaning self.new.port) result }
+        ensures asks { Asks (addresses_of self.old.peers.items) (length buf.old) buf.new (taker_of (P.meaning self.old.port) self.old) (taker_of (P.meaning self.new.port) self.new) result }
+        ensures addresses { addresses_of self.new.peers.items ≡ addresses_of self.old.peers.items }
     {
         match self.received.next(buf) {
             Some(got) => Ok(Some(got)),
@@ -227,12 +237,14 @@ impl<P: Port, C: Clock> PacketsPort<P, C> {
 
     /// Receives a packet, and returns its datagram if it is one, or `Nothing` if none has arrived.
     fn take_packet(&mut self, buf: &mut [u8]) -> Result<Option<Recv>, Failed>
+        requires { NoneLeft self.old.received.unpacking }
         ensures within { IfOk result (λ got. IfSome got (IsWithin (length buf.old))) }
         ensures given { IfOk result (λ got. IfSome got (IsOf (unpacked (P.gives self.old.port) self.old.received) buf.new)) }
         ensures rest { NoMore (unpacked (P.gives self.old.port) self.old.received) (unpacked (P.gives self.new.port) self.new.received) }
         ensures sends { NoMore (P.may_send self.old.port) (P.may_send self.new.port) }
         ensures same { self.new ≡ record self.old { port = self.new.port; peers = self.new.peers; room = self.new.room; received = self.new.received } }
-        ensures asks { Asks (P.meaning self.old.port) (P.meaning self.new.port) result }
+        ensures asks { Asks (addresses_of self.old.peers.items) (length buf.old) buf.new (taker_of (P.meaning self.old.port) self.old) (taker_of (P.meaning self.new.port) self.new) result }
+        ensures addresses { addresses_of self.new.peers.items ≡ addresses_of self.old.peers.items }
     {
         match self.recv_below()? {
             Recv::Nothing => Ok(Some(Recv::Nothing)),
@@ -287,7 +299,10 @@ impl<P: Port, C: Clock> PacketsPort<P, C> {
     fn open(&mut self, from: u64, len: usize, buf: &mut [u8]) -> Option<Recv>
         requires { len ≤ length self.old.room.items }
         ensures packed { result ≡ None → is_packed (take len self.old.room.items) ≡ true }
+        ensures opened { result ≡ None → IsOpenedOf (addresses_of self.old.peers.items) from (take len self.old.room.items) self.old.received self.new.received }
         ensures some { IfSome result IsDatagram }
+        ensures goes { IfSome result (IsAsItIs from (take len self.old.room.items) (length buf.old) buf.new) }
+        ensures addresses { addresses_of self.new.peers.items ≡ addresses_of self.old.peers.items }
         ensures within { IfSome result (IsWithin (length buf.old)) }
         ensures given { IfSome result (IsOf (unpacked (Only from (take len self.old.room.items)) self.old.received) buf.new) }
         ensures opens { Opens from (take len self.old.room.items) self.old.received self.new.received }
@@ -298,8 +313,9 @@ impl<P: Port, C: Clock> PacketsPort<P, C> {
         if !is_packed(packet) {
             return Some(hand_up(from, packet, buf));
         }
-        let peer = peer_at(&mut self.peers, from)?;
-        peer.note_heard(self.now);
+        if !note_heard(&mut self.peers, from, self.now) {
+            return None;
+        }
         self.received.take(from, packet, buf)
     }
 
@@ -383,6 +399,7 @@ impl<P: Port, C: Clock> PacketsPort<P, C> {
 }
 
 impl<P: Port, C: Clock> Port for PacketsPort<P, C> {
+    ghost use Rattle.crsm_port_packets.specs.Asking.{AsksUntil, taker_of};
     ghost use Rattle.crsm_port_packets.specs.Sending.{IsPassedOn, IsRefused, sender_of};
 
     ghost meaning = { λ p. unknown p.faults p.losses p.empties };
@@ -394,7 +411,8 @@ impl<P: Port, C: Clock> Port for PacketsPort<P, C> {
     fn recv(&mut self, buf: &mut [u8]) -> Result<Recv, Failed>
         ensures receives { Receives (unknown self.old.faults self.old.losses self.old.empties) (unknown self.new.faults self.new.losses self.new.empties) buf.old buf.new result }
         ensures hands_up { HandsUp (unpacked (P.gives self.old.port) self.old.received) (unpacked (P.gives self.new.port) self.new.received) (sent_with (P.may_send self.old.port) (packets_of self.old.waiting)) (sent_with (P.may_send self.new.port) (packets_of self.new.waiting)) buf.new result }
-        ensures goes { (between : Meaning) × LetsGo (addresses_of self.old.peers.items) (packets_of self.old.waiting) (P.meaning self.old.port) between × AsksUntil between (P.meaning self.new.port) result }
+        ensures goes { (between : Meaning) × LetsGo (addresses_of self.old.peers.items) (packets_of self.old.waiting) (P.meaning self.old.port) between × AsksUntil (addresses_of self.old.peers.items) (length buf.old) buf.new (record { below = between; held = self.old.received }) (taker_of (P.meaning self.new.port) self.new) result }
+        ensures addresses { addresses_of self.new.peers.items ≡ addresses_of self.old.peers.items }
         ensures none { packets_of self.new.waiting ≡ [] }
     {
         self.let_go();

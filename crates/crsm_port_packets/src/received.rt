@@ -1,11 +1,13 @@
 //! What was received and is not handed up yet.
 
-ghost use Rattle.std.specs.Prelude.{◌≡◌, IfSome, length};
+ghost use Rattle.std.specs.Prelude.{◌≡◌, ◌⊎◌, IfSome, None, length};
 ghost use Rattle.crsm_port.specs.Meaning.{IsWithin};
 ghost use Rattle.crsm_port.specs.Passing.{Cut, IsOf, NoMore, Only};
+ghost use Rattle.crsm_port_faults.specs.Counts.{Rose};
 ghost use Rattle.crsm_port_packets.specs.Carrying.{put_together};
+ghost use Rattle.crsm_port_packets.specs.Format.{StandsIn};
 ghost use Rattle.crsm_port_packets.specs.Held.{Opens, fragments_with};
-ghost use Rattle.crsm_port_packets.specs.Receiving.{IsDatagram};
+ghost use Rattle.crsm_port_packets.specs.Receiving.{Begins, IsDatagram, IsOpened, NoneLeft, TakesNext};
 ghost use Rattle.crsm_port_packets.specs.Waiting.{waiting_in};
 
 use crate::format::{MOST_FRAGMENTS, MOST_IN_FRAGMENT, PacketKind, kind_of};
@@ -13,6 +15,7 @@ use crate::fragments::Fragments;
 use crate::unpacking::{Unpacking, hand_up};
 use crsm_base::NoMemory;
 use crsm_port::Recv;
+use crsm_port_faults::raise;
 use std::alloc::Global;
 
 /// The bundle that is being taken apart, and fragments whose datagrams are not whole.
@@ -22,6 +25,8 @@ pub(crate) struct Received {
     fragments: Fragments,
     // A datagram that was put together.
     whole: Vec<u8>,
+    // The number of packets that were lost for want of memory.
+    unkept: u64,
 }
 
 impl Received {
@@ -31,6 +36,7 @@ impl Received {
             unpacking: Unpacking::new(alloc),
             fragments: Fragments::new(alloc),
             whole: Vec::with_capacity(alloc, MOST_IN_FRAGMENT * MOST_FRAGMENTS)?,
+            unkept: 0,
         })
     }
 
@@ -39,10 +45,24 @@ impl Received {
         ensures within { IfSome result (IsWithin (length buf.old)) }
         ensures waited { IfSome result (IsOf (Cut (waiting_in self.old.unpacking)) buf.new) }
         ensures some { IfSome result IsDatagram }
+        ensures next { IfSome result (TakesNext self.old.unpacking self.new.unpacking (length buf.old) buf.new) }
+        ensures none { result ≡ None → NoneLeft self.old.unpacking × (self.new ≡ self.old) }
         ensures rest { NoMore (waiting_in self.old.unpacking) (waiting_in self.new.unpacking) }
         ensures same { self.new.fragments ≡ self.old.fragments }
     {
         self.unpacking.take(buf)
+    }
+
+    /// Takes the entries of a bundle in place of the last one. If memory runs out this is counted, and the bundle is lost.
+    fn begin(&mut self, from: u64, entries: &[u8])
+        ensures only { NoMore (λ address d. (address ≡ from) × StandsIn d entries.now) (waiting_in self.new.unpacking) }
+        ensures begins { Begins from entries.now self.new.unpacking ⊎ Rose self.old.unkept self.new.unkept }
+        ensures fragments { self.new.fragments ≡ self.old.fragments }
+    {
+        match self.unpacking.begin(from, entries) {
+            Ok(()) => {}
+            Err(NoMemory) => raise(&mut self.unkept),
+        }
     }
 
     /// Takes a packet that is no plain datagram, and returns its datagram, cut to the buffer, if it was the last
@@ -53,17 +73,22 @@ impl Received {
         ensures some { IfSome result IsDatagram }
         ensures whole { IfSome result (IsOf (Cut (put_together (fragments_with (Only from packet.now) self.old))) buf.new) }
         ensures opens { Opens from packet.now self.old self.new }
+        ensures opened { result ≡ None → IsOpened from packet.now self.old self.new }
     {
         match kind_of(packet) {
             PacketKind::Bundle(entries) => {
-                let _ = self.unpacking.begin(from, entries);
+                self.begin(from, entries);
                 None
             }
             PacketKind::Fragment(fragment) => {
                 self.whole.clear();
                 match self.fragments.add(from, &fragment, &mut self.whole) {
                     Ok(true) => Some(hand_up(from, self.whole.as_slice(), buf)),
-                    _ => None,
+                    Ok(false) => None,
+                    Err(NoMemory) => {
+                        raise(&mut self.unkept);
+                        None
+                    }
                 }
             }
             PacketKind::Other => None,

@@ -1,11 +1,14 @@
-use Rattle.std.proofs.Common.{List, ℕ, refl, subst}
+use Rattle.std.proofs.Common.{List, ℕ, inl, inr, refl, subst}
 use Rattle.crsm_port.specs.Passing.{Cut, IsOf, Only}
 use Rattle.crsm_port_packets.specs.Format.{fields_of}
-use Rattle.crsm_port_packets.proofs.Takings.{bundle_opens, fragment_opens, whole_given}
+use Rattle.crsm_port_packets.proofs.Takings.{bundle_opens, fragment_no_bundle, fragment_opens, whole_given}
 use Rattle.crsm_port_packets.proofs.received.Received.take.Goals as goal
 
 pub returns-in-Bundle-clause-opens : goal.returns-in-Bundle-clause-opens
-returns-in-Bundle-clause-opens c = bundle_opens c.args.from c.args.packet.now c.args.self.now (record c.args.self.now { unpacking = c.begin.new.self }) c.in-Bundle.entries.now c.in-Bundle.ensures c.begin.ensures refl
+returns-in-Bundle-clause-opens c = bundle_opens c.args.from c.args.packet.now c.args.self.now c.begin.new.self c.in-Bundle.entries.now c.in-Bundle.ensures c.begin.ensures.only c.begin.ensures.fragments
+
+pub returns-in-Bundle-clause-opened : goal.returns-in-Bundle-clause-opened
+returns-in-Bundle-clause-opened c = λ _. inl (c.in-Bundle.entries.now, c.in-Bundle.ensures, c.begin.ensures.begins)
 
 pub returns-in-Ok-true-clause-whole : goal.returns-in-Ok-true-clause-whole
 returns-in-Ok-true-clause-whole c =
@@ -17,8 +20,14 @@ returns-in-Ok-true-clause-whole c =
 pub returns-in-Ok-true-clause-opens : goal.returns-in-Ok-true-clause-opens
 returns-in-Ok-true-clause-opens c = fragment_opens c.args.from c.args.packet.now c.args.self.now _ (fields_of c.in-Fragment.fragment) c.in-Fragment.ensures refl c.add.ensures.kept
 
-pub returns-in_default-clause-opens : goal.returns-in_default-clause-opens
-returns-in_default-clause-opens c = fragment_opens c.args.from c.args.packet.now c.args.self.now _ (fields_of c.in-Fragment.fragment) c.in-Fragment.ensures refl c.add.ensures.kept
+pub returns-in-Ok-false-clause-opens : goal.returns-in-Ok-false-clause-opens
+returns-in-Ok-false-clause-opens c = fragment_opens c.args.from c.args.packet.now c.args.self.now _ (fields_of c.in-Fragment.fragment) c.in-Fragment.ensures refl c.add.ensures.kept
 
-pub returns-in_default-2-clause-opens : goal.returns-in_default-2-clause-opens
-returns-in_default-2-clause-opens c = fragment_opens c.args.from c.args.packet.now c.args.self.now _ (fields_of c.in-Fragment.fragment) c.in-Fragment.ensures refl c.add.ensures.kept
+pub returns-in-Ok-false-clause-opened : goal.returns-in-Ok-false-clause-opened
+returns-in-Ok-false-clause-opened c = λ _. inr (fragment_no_bundle c.args.packet.now (fields_of c.in-Fragment.fragment) c.in-Fragment.ensures, refl)
+
+pub returns-in-Err-clause-opens : goal.returns-in-Err-clause-opens
+returns-in-Err-clause-opens c = fragment_opens c.args.from c.args.packet.now c.args.self.now _ (fields_of c.in-Fragment.fragment) c.in-Fragment.ensures refl c.add.ensures.kept
+
+pub returns-in-Err-clause-opened : goal.returns-in-Err-clause-opened
+returns-in-Err-clause-opened c = λ _. inr (fragment_no_bundle c.args.packet.now (fields_of c.in-Fragment.fragment) c.in-Fragment.ensures, refl)
