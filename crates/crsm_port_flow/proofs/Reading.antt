@@ -9,10 +9,11 @@ use Rattle.crsm_port.specs.Passing.{NoMore}
 use Rattle.crsm_port.specs.declared.port.Recv.{Recv}
 use Rattle.crsm_port.specs.declared.port.Recv.TheVariants.{Nothing, Datagram}
 use Rattle.crsm_port_flow.specs.Hears.{AreKnownBy}
+use Rattle.crsm_port_flow.specs.Windows.{WindowTakes}
 use Rattle.crsm_port_flow.specs.Kept.{GoesUp, early_in, kept_in, operate_in, packet_of, ready_in, waiting_in}
 use Rattle.crsm_port_flow.specs.Lost.{TakesIn}
 use Rattle.crsm_port_flow.specs.Order.{NextGoes}
-use Rattle.crsm_port_flow.specs.Reads.{Answers, Ends, IsAnswer, ReadsNone, ReadsOne, SameRest, Stands, State, StaysAbove, TakesAll, TakesAndEnds, TakesOne, TakesOrEnds, state_of}
+use Rattle.crsm_port_flow.specs.Reads.{Answers, Ends, IsAnswer, ReadsNone, ReadsOne, SameRest, Stands, State, StaysAbove, TakesAll, TakesAndEnds, TakesOne, TakesOrEnds, known_of, state_of}
 use Rattle.crsm_port_flow.specs.Same.{SameKept}
 use Rattle.crsm_port_flow.specs.declared.clients.Clients.{Clients}
 use Rattle.crsm_port_flow.specs.declared.clients.Operate.{Operate}
@@ -143,12 +144,12 @@ pub ends_last : {P C : Type 0} (below now_below : Meaning) (had : Bool) (came : 
     → Answers (Ok Nothing) below now_below ⊎ ((now_below ≡ below) × (2_048 ≤ length came)) → ((got ≡ Nothing → ⊥) → NextGoes a.inbound n.inbound before after got) → (got ≡ Nothing → SameKept a.inbound n.inbound)
     → Ends had came before after (state_of below a) (state_of now_below n) (Ok got)
 ends_last {P = P} {C = C} below now_below had came before after a n Nothing same none goes stays = (
-  (stays refl, (ap (λ (x : FlowPort P C). length x.room.items) same, ap (λ (x : FlowPort P C). x.hearing) same, ap (λ (x : FlowPort P C). x.lost) same)),
+  (stays refl, (ap (λ (x : FlowPort P C). length x.room.items) same, ap (λ (x : FlowPort P C). known_of x) same, ap (λ (x : FlowPort P C). x.lost) same)),
   none,
 )
 ends_last {P = P} {C = C} below now_below had came before after a n (Datagram from len) same none goes stays = (
   goes (datagram_goes from len),
-  (ap (λ (x : FlowPort P C). length x.room.items) same, ap (λ (x : FlowPort P C). x.hearing) same, ap (λ (x : FlowPort P C). x.lost) same),
+  (ap (λ (x : FlowPort P C). length x.room.items) same, ap (λ (x : FlowPort P C). known_of x) same, ap (λ (x : FlowPort P C). x.lost) same),
   elim none [
     | inl answers ↦ inl answers
     | inr many ↦ inr many.0
@@ -159,7 +160,7 @@ ends_last {P = P} {C = C} below now_below had came before after a n (Datagram fr
 pub asked_stays : {P C : Type 0} (m n : Meaning) (p a : FlowPort P C) → (let asked : FlowPort P C = record p { port = a.port; clock = a.clock; room = a.room; has_failed = a.has_failed } in a ≡ asked) → length a.room.items ≡ length p.room.items
     → StaysAbove (state_of m p) (state_of n a)
 asked_stays {P = P} {C = C} m n p a same size =
-    (kept_by p.inbound a.inbound (ap (λ (x : FlowPort P C). x.inbound) same), (size, ap (λ (x : FlowPort P C). x.hearing) same, ap (λ (x : FlowPort P C). x.lost) same))
+    (kept_by p.inbound a.inbound (ap (λ (x : FlowPort P C). x.inbound) same), (size, ap (λ (x : FlowPort P C). known_of x) same, ap (λ (x : FlowPort P C). x.lost) same))
 
 -- what waits goes up
 pub last_goes : {P C : Type 0} (M : P → Meaning) (had : Bool) (now : ℕ) (before after : List ℕ) (a n : FlowPort P C) (got : Recv) → (let last : FlowPort P C = record a { inbound = n.inbound } in n ≡ last) → (got ≡ Nothing → ⊥)
@@ -169,7 +170,7 @@ last_goes {P = P} {C = C} M had now before after a n got same some goes = (
   state_of (M a.port) a,
   stands_still (state_of (M a.port) a),
   ends_at_once had [] before after (state_of (M a.port) a) (state_of (M n.port) n) got some goes
-      (ap (λ (x : FlowPort P C). length x.room.items) same, ap (λ (x : FlowPort P C). x.hearing) same, ap (λ (x : FlowPort P C). x.lost) same) (ap (λ (x : FlowPort P C). M x.port) same),
+      (ap (λ (x : FlowPort P C). length x.room.items) same, ap (λ (x : FlowPort P C). known_of x) same, ap (λ (x : FlowPort P C). x.lost) same) (ap (λ (x : FlowPort P C). M x.port) same),
 )
 
 -- so many came, and what waits goes up, or nothing does
@@ -186,8 +187,9 @@ module _ {P C : Type 0} (M : P → Meaning) (p a q : FlowPort P C) where
       → (let taken : FlowPort P C = record a { hearing = q.hearing; quiet = q.quiet; inbound = q.inbound; outbound = q.outbound; lost = q.lost } in q ≡ taken)
       → length a.room.items ≡ length p.room.items → Receives (M p.port) (M a.port) p.room.items a.room.items (Ok (Datagram from len))
       → TakesIn from (take len a.room.items) a.now a.hearing.peers.items a.inbound q.inbound a.lost q.lost → AreKnownBy a.hearing.me from (take len a.room.items) a.now a.hearing.peers.items q.hearing.peers.items → q.hearing.me ≡ a.hearing.me
+      → WindowTakes from (take len a.room.items) a.now a.hearing.peers.items a.outbound.window q.outbound.window
       → TakesOne p.now (record { address = from; bytes = take len a.room.items }) (state_of (M p.port) p) (state_of (M q.port) q)
-  came_in from len same then size receives taken known me = record {
+  came_in from len same then size receives taken known me window = record {
     before = p.room.items;
     after = a.room.items;
     len = len;
@@ -196,6 +198,7 @@ module _ {P C : Type 0} (M : P → Meaning) (p a q : FlowPort P C) where
     bytes = refl;
     taken = subst (λ (x : FlowPort P C). TakesIn from (take len a.room.items) x.now x.hearing.peers.items x.inbound q.inbound x.lost q.lost) same taken;
     known = subst (λ (x : FlowPort P C). AreKnownBy x.hearing.me from (take len a.room.items) x.now x.hearing.peers.items q.hearing.peers.items) same known;
+    window = subst (λ (x : FlowPort P C). WindowTakes from (take len a.room.items) x.now x.hearing.peers.items x.outbound.window q.outbound.window) same window;
     me = me ∙ ap (λ (x : FlowPort P C). x.hearing.me) same;
   }
 
@@ -218,10 +221,11 @@ module _ {P C : Type 0} (M : P → Meaning) (p a : FlowPort P C) (c : Clients) (
   pub asks_came : (q : FlowPort P C) (from len : ℕ) → (let taken : FlowPort P C = record a { hearing = q.hearing; quiet = q.quiet; inbound = q.inbound; outbound = q.outbound; lost = q.lost } in q ≡ taken)
       → Receives (M p.port) (M a.port) p.room.items a.room.items (Ok (Datagram from len)) → TakesIn from (take len a.room.items) a.now a.hearing.peers.items a.inbound q.inbound a.lost q.lost
       → AreKnownBy a.hearing.me from (take len a.room.items) a.now a.hearing.peers.items q.hearing.peers.items → q.hearing.me ≡ a.hearing.me
+      → WindowTakes from (take len a.room.items) a.now a.hearing.peers.items a.outbound.window q.outbound.window
       → (d : Packet) × TakesAll p.now (d ∷ []) (state_of (M p.port) p) (state_of (M q.port) q)
-  asks_came q from len then receives taken known me =
+  asks_came q from len then receives taken known me window =
       let d : Packet = record { address = from; bytes = take len a.room.items } in
-      let one = came_in M (asking p c) a q from len same then size receives taken known me in
+      let one = came_in M (asking p c) a q from len same then size receives taken known me window in
       let others = asks_others (M p.port) p c waiting operate in
       (d, takes_later p.now (d ∷ []) (state_of (M p.port) p) (state_of (M p.port) (asking p c)) (state_of (M q.port) q) others (takes_one p.now d (state_of (M p.port) (asking p c)) (state_of (M q.port) q) one))
 

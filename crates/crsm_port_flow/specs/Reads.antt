@@ -11,21 +11,31 @@ use Rattle.crsm_port_flow.specs.Order.{NextGoes}
 use Rattle.crsm_port_flow.specs.Same.{SameKept}
 use Rattle.crsm_port_flow.specs.Turns.{AreInTime, DropsOver}
 use Rattle.crsm_port_flow.specs.Waits.{SendsAll}
+use Rattle.crsm_port_flow.specs.Windows.{WindowTakes}
 use Rattle.crsm_port_flow.specs.declared.datagram.Losses.{Losses}
 use Rattle.crsm_port_flow.specs.declared.flow.FlowPort.{FlowPort}
 use Rattle.crsm_port_flow.specs.declared.hearing.Hearing.{Hearing}
 use Rattle.crsm_port_flow.specs.declared.inbound.Inbound.{Inbound}
+use Rattle.crsm_port_flow.specs.declared.window.Window.{Window}
+
+-- what is known of the peers, and which frames are under way
+pub record Known : Type 0 where
+  pub hearing : Hearing
+  pub window : Window
+
+abbrev pub known_of : {P C : Type 0} → FlowPort P C → Known
+known_of p = record { hearing = p.hearing; window = p.outbound.window }
 
 -- the port below, by its meaning, the bytes that there is room for, what is kept, what is known of the peers, and how many were lost
 pub record State : Type 0 where
   pub below : Meaning
   pub room : ℕ
   pub kept : Inbound
-  pub hearing : Hearing
+  pub known : Known
   pub lost : Losses
 
 abbrev pub state_of : {P C : Type 0} → Meaning → FlowPort P C → State
-state_of below p = record { below = below; room = length p.room.items; kept = p.inbound; hearing = p.hearing; lost = p.lost }
+state_of below p = record { below = below; room = length p.room.items; kept = p.inbound; known = known_of p; lost = p.lost }
 
 -- ---- what the port below is asked
 
@@ -40,7 +50,7 @@ IsAnswer had_failed old new before after (Err e) = Receives old new before after
 
 -- what is known of the peers stays, and so does how many were lost
 abbrev pub SameRest : State → State → Type 0
-SameRest old new = (new.room ≡ old.room) × (new.hearing ≡ old.hearing) × (new.lost ≡ old.lost)
+SameRest old new = (new.room ≡ old.room) × (new.known ≡ old.known) × (new.lost ≡ old.lost)
 
 -- this stays, and what waits to go up
 abbrev pub StaysAbove : State → State → Type 0
@@ -58,9 +68,10 @@ pub record TakesOne (now : ℕ) (p : Packet) (old new : State) : Type 0 where
   pub room : (length before ≡ old.room) × (new.room ≡ old.room)
   pub receives : Receives old.below new.below before after (Ok (Datagram p.address len))
   pub bytes : p.bytes ≡ take len after
-  pub taken : TakesIn p.address p.bytes now old.hearing.peers.items old.kept new.kept old.lost new.lost
-  pub known : AreKnownBy old.hearing.me p.address p.bytes now old.hearing.peers.items new.hearing.peers.items
-  pub me : new.hearing.me ≡ old.hearing.me
+  pub taken : TakesIn p.address p.bytes now old.known.hearing.peers.items old.kept new.kept old.lost new.lost
+  pub known : AreKnownBy old.known.hearing.me p.address p.bytes now old.known.hearing.peers.items new.known.hearing.peers.items
+  pub window : WindowTakes p.address p.bytes now old.known.hearing.peers.items old.known.window new.known.window
+  pub me : new.known.hearing.me ≡ old.known.hearing.me
 
 -- it hands up these, one after another, and each is taken in
 abbrev pub TakesAll : ℕ → List Packet → State → State → Type 0

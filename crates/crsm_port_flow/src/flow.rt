@@ -17,6 +17,7 @@ ghost use Rattle.crsm_port_flow.specs.Same.{SameClients, SameKept, SamePeers, St
 ghost use Rattle.crsm_port_flow.specs.Taken.{Comes, IsStranger};
 ghost use Rattle.crsm_port_flow.specs.Turns.{IsAnswered, IsReplyTo};
 ghost use Rattle.crsm_port_flow.specs.Waits.{HoldsStill, MayWait, Notes, NotesNone, SendsAll};
+ghost use Rattle.crsm_port_flow.specs.Windows.{WindowSends, WindowTakes, new_window};
 ghost use Rattle.crsm_port_flow.specs.declared.commands.Command.{Command};
 
 use crate::clients::NextAsked;
@@ -106,6 +107,7 @@ impl<P: Drop, C: Drop> FlowPort<P, C> {
         ensures peers { IfOk result (λ p. (p.hearing.me ≡ me) × (p.hearing.peers.items ≡ map unheard peers.now) × (p.hearing.said_at ≡ None)) }
         ensures frames { IfOk result (λ p. All (λ f. f.at ≡ 0) p.outbound.repeats.last.items) }
         ensures parts { IfOk result (λ p. All (λ q. q.at ≡ 0) p.outbound.parts.last.items) }
+        ensures window { IfOk result (λ p. p.outbound.window ≡ new_window 0) }
     {
         Ok(FlowPort {
             port: inner,
@@ -136,6 +138,7 @@ impl<P: Port, C: Clock> FlowPort<P, C> {
         ensures leaves_room { IsStranger from self.old.hearing.peers.items → self.new.inbound.peers ≡ self.old.inbound.peers }
         ensures known { AreKnownBy self.old.hearing.me from (take len self.old.room.items) self.old.now self.old.hearing.peers.items self.new.hearing.peers.items }
         ensures me { self.new.hearing.me ≡ self.old.hearing.me }
+        ensures window { WindowTakes from (take len self.old.room.items) self.old.now self.old.hearing.peers.items self.old.outbound.window self.new.outbound.window }
         ensures same { self.new ≡ record self.old { hearing = self.new.hearing; quiet = self.new.quiet; inbound = self.new.inbound; outbound = self.new.outbound; lost = self.new.lost } }
         ensures port { self.new.port ≡ self.old.port }
         ensures acks { self.new.outbound.acks ≡ self.old.outbound.acks }
@@ -158,6 +161,7 @@ impl<P: Port, C: Clock> FlowPort<P, C> {
         ensures leaves_room { IsStranger from self.old.hearing.peers.items → self.new.inbound.peers ≡ self.old.inbound.peers }
         ensures known { AreKnownBy self.old.hearing.me from (take len self.old.room.items) self.old.now self.old.hearing.peers.items self.new.hearing.peers.items }
         ensures me { self.new.hearing.me ≡ self.old.hearing.me }
+        ensures window { WindowTakes from (take len self.old.room.items) self.old.now self.old.hearing.peers.items self.old.outbound.window self.new.outbound.window }
         ensures unchanged { OnErr result (SamePeers self.old.inbound.peers self.new.inbound.peers × SameClients self.old.inbound.clients self.new.inbound.clients) }
         ensures same { self.new ≡ record self.old { hearing = self.new.hearing; quiet = self.new.quiet; inbound = self.new.inbound; outbound = self.new.outbound } }
         ensures lost { self.new.lost ≡ self.old.lost }
@@ -433,6 +437,7 @@ impl<P: Port, C: Clock> Port for FlowPort<P, C> {
         ensures goes { Sends to bytes.now (P.meaning self.old.port) (P.meaning self.new.port) result ⊎ (IsOk result × (self.new.port ≡ self.old.port) × MayWait to bytes.now self.old.now self.old.outbound self.new.outbound × NotesNone self.old.outbound self.new.outbound) }
         ensures noted { Notes to bytes.now self.old.now self.old.outbound self.new.outbound }
         ensures held { HoldsStill to bytes.now self.old.outbound self.new.outbound }
+        ensures window { WindowSends bytes.now self.old.now self.old.outbound.window self.new.outbound.window }
         ensures answered { (c : Command) → IsReplyTo c bytes.now → IsAnswered c self.new.inbound.clients.requests.unanswered.entries }
         ensures lost { OnErr result (Rose (P.meaning self.old.port).losses (P.meaning self.new.port).losses) }
         ensures stays { StaysWhenSent self.old.inbound self.new.inbound }
@@ -481,6 +486,7 @@ impl<P: Port, C: Clock> Port for FlowPort<P, C> {
         ensures goes { (said : List Packet) × Tells self.old.now self.old.hearing self.new.hearing said × SendsAll (map packet_of self.old.outbound.acks.acks.items ++ said) (P.meaning self.old.port) (P.meaning self.new.port) }
         ensures none_held { self.new.outbound.acks.acks.items ≡ [] }
         ensures noted { NotesNone self.old.outbound self.new.outbound }
+        ensures window { self.new.outbound.window ≡ self.old.outbound.window }
         ensures stays { self.new ≡ record self.old { port = self.new.port; outbound = self.new.outbound; quiet = self.new.quiet; hearing = record self.old.hearing { said_at = self.new.hearing.said_at } } }
     {
         self.outbound.acks.let_go(&mut self.port);

@@ -4,7 +4,7 @@ ghost use Rattle.std.specs.Prelude.{◌≡◌, [], All, false, IfOk};
 ghost use Rattle.crsm_port.specs.Passing.{OneMore};
 ghost use Rattle.crsm_port_flow.specs.Acks.{held_in};
 ghost use Rattle.crsm_port_flow.specs.Waits.{HoldsStill, MayWait, Notes, NotesNone};
-ghost use Rattle.crsm_port_flow.specs.Windows.{IsBehind};
+ghost use Rattle.crsm_port_flow.specs.Windows.{IsBehind, WindowHears, WindowSends, new_window};
 
 use crate::acks::LastAcks;
 use crate::heads::{ACK, FRAME, head_in, part_in};
@@ -29,12 +29,13 @@ impl Outbound {
         ensures acks { IfOk result (λ o. o.acks.acks.items ≡ []) }
         ensures frames { IfOk result (λ o. All (λ f. f.at ≡ 0) o.repeats.last.items) }
         ensures parts { IfOk result (λ o. All (λ p. p.at ≡ 0) o.parts.last.items) }
+        ensures window { IfOk result (λ o. o.window ≡ new_window 0) }
     {
         Ok(Outbound {
             acks: LastAcks::new(alloc)?,
             repeats: Repeats::new(alloc)?,
             parts: RecentParts::new(alloc)?,
-            window: Window::new(),
+            window: Window::new(0),
         })
     }
 
@@ -45,6 +46,7 @@ impl Outbound {
         ensures later { result ≡ false → MayWait to bytes.now now self.old self.new × NotesNone self.old self.new }
         ensures noted { Notes to bytes.now now self.old self.new }
         ensures still { HoldsStill to bytes.now self.old self.new }
+        ensures window { WindowSends bytes.now now self.old.window self.new.window }
     {
         if let Some(frame) = head_in(FRAME, bytes) {
             self.window.note_sent(frame, now);
@@ -63,6 +65,7 @@ impl Outbound {
     pub(crate) fn note_received(&mut self, bytes: &[u8], now: u64)
         ensures acks { self.new.acks ≡ self.old.acks }
         ensures noted { NotesNone self.old self.new }
+        ensures window { WindowHears bytes.now now self.old.window self.new.window }
     {
         if let Some(ack) = head_in(ACK, bytes) {
             self.repeats.note_expected(ack, now);

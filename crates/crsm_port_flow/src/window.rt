@@ -1,7 +1,8 @@
 //! The frames of each link that were sent and are not acknowledged.
 
-ghost use Rattle.std.specs.Prelude.{◌≡◌, true};
-ghost use Rattle.crsm_port_flow.specs.Windows.{IsBehind, has_past, most_under_way, under_way};
+ghost use Rattle.std.specs.Prelude.{◌≡◌, ◌==◌, if◌then◌else◌, true};
+ghost use Rattle.crsm_port_flow.specs.Early.{after};
+ghost use Rattle.crsm_port_flow.specs.Windows.{CountsExpected, CountsSent, IsBehind, SendsIn, has_past, most_under_way, new_window, under_way};
 
 use crate::heads::Head;
 use crate::time::is_recent;
@@ -46,10 +47,12 @@ pub(crate) struct Window {
 }
 
 impl Window {
-    /// Returns the links of no epoch.
-    pub(crate) fn new() -> Window {
+    /// Returns the links of an epoch of which no frame was sent.
+    pub(crate) fn new(epoch: u64) -> Window
+        ensures { result ≡ new_window epoch }
+    {
         Window {
-            epoch: 0,
+            epoch,
             links: [Link {
                 sent: 0,
                 acknowledged: 0,
@@ -60,7 +63,9 @@ impl Window {
     }
 
     /// Records a frame that is sent.
-    pub(crate) fn note_sent(&mut self, frame: Head, now: u64) {
+    pub(crate) fn note_sent(&mut self, frame: Head, now: u64)
+        ensures { CountsSent frame.to frame.epoch frame.number now self.old self.new }
+    {
         let Head {
             to,
             epoch,
@@ -68,35 +73,50 @@ impl Window {
             ..
         } = frame;
         if epoch > self.epoch {
-            *self = Window::new();
-            self.epoch = epoch;
+            *self = Window::new(epoch);
         }
-        let Some(link) = self.links.get_mut(usize::from(to)) else {
+        if epoch == self.epoch {
+            self.note_next(to, number, now);
+        }
+    }
+
+    /// Records a frame of the window's epoch that is sent.
+    fn note_next(&mut self, to: u8, number: u64, now: u64)
+        ensures { SendsIn to number now self.old self.new }
+    {
+        let place = usize::from(to);
+        if place >= REPLICAS {
             return;
+        }
+        let link = self.links[place];
+        if number < link.sent {
+            return;
+        }
+        self.used = used_after(self.used, link);
+        self.since = since_after(self.since, link, now);
+        self.links[place] = Link {
+            sent: number.saturating_add(1),
+            acknowledged: link.acknowledged,
         };
-        if epoch < self.epoch || number < link.sent {
-            return;
-        }
-        if link.sent == 0 {
-            self.used = self.used.saturating_add(1);
-        }
-        if link.under_way() == 0 {
-            self.since = now;
-        }
-        link.sent = number.saturating_add(1);
     }
 
     /// Records the sequence number that a replica expects.
-    pub(crate) fn note_expected(&mut self, from: u8, epoch: u64, next: u64, now: u64) {
-        if epoch != self.epoch {
+    pub(crate) fn note_expected(&mut self, from: u8, epoch: u64, next: u64, now: u64)
+        ensures { CountsExpected from epoch next now self.old self.new }
+    {
+        let place = usize::from(from);
+        if epoch != self.epoch || place >= REPLICAS {
             return;
         }
-        if let Some(link) = self.links.get_mut(usize::from(from)) {
-            if next > link.acknowledged && next <= link.sent {
-                link.acknowledged = next;
-                self.since = now;
-            }
+        let link = self.links[place];
+        if next <= link.acknowledged || next > link.sent {
+            return;
         }
+        self.since = now;
+        self.links[place] = Link {
+            sent: link.sent,
+            acknowledged: next,
+        };
     }
 
     /// Returns whether a peer is so far behind that requests have to wait.
@@ -113,6 +133,24 @@ impl Window {
         let members = self.used.min(REPLICAS as u64) + 1;
         OF_EACH * members + MORE
     }
+}
+
+/// Returns the number of links with frames after a frame is sent on this one.
+fn used_after(used: u64, link: Link) -> u64
+    ensures { result ≡ (if link.sent == 0 then after used else used) }
+{
+    if link.sent == 0 {
+        used.saturating_add(1)
+    } else {
+        used
+    }
+}
+
+/// Returns since when a frame of the links is waited for, after one is sent on this link.
+fn since_after(since: u64, link: Link, now: u64) -> u64
+    ensures { result ≡ (if under_way link == 0 then now else since) }
+{
+    if link.under_way() == 0 { now } else { since }
 }
 
 /// Returns whether more than `most` frames are on their way on one of the links.

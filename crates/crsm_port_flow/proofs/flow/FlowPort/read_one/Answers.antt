@@ -39,7 +39,7 @@ returns-in-Ok-Datagram-clause-reads g c =
     let t = c.take_in.ensures in
     let receives = rw c.in-Ok-Datagram.field-0-is at c.in-Ok-Datagram.ensures.answers in (
       _,
-      came_in g.P.Port.meaning p a q c.in-Ok-Datagram.from c.in-Ok-Datagram.len c.arrived.ensures.same t.same c.arrived.ensures.room receives t.comes t.known t.me,
+      came_in g.P.Port.meaning p a q c.in-Ok-Datagram.from c.in-Ok-Datagram.len c.arrived.ensures.same t.same c.arrived.ensures.room receives t.comes t.known t.me t.window,
       failed_same a q t.same ∙ c.in-Ok-Datagram.ensures.ready,
     )
 

@@ -57,7 +57,7 @@ returns-in-Ok-Datagram-clause-takes g c =
     let t = c.take_in.ensures in
     let asked = c.next-asked.ensures in
     let receives = rw c.in-Ok-Datagram.field-0-is at c.in-Ok-Datagram.ensures.answers in
-    asks_came g.P.Port.meaning c.args.self.now a c.next-asked.new.self asked.waiting asked.operate c.arrived.ensures.same c.arrived.ensures.room q c.in-Ok-Datagram.from c.in-Ok-Datagram.len t.same receives t.comes t.known t.me
+    asks_came g.P.Port.meaning c.args.self.now a c.next-asked.new.self asked.waiting asked.operate c.arrived.ensures.same c.arrived.ensures.room q c.in-Ok-Datagram.from c.in-Ok-Datagram.len t.same receives t.comes t.known t.me t.window
 
 pub returns-in-Ok-Nothing-clause-takes : goal.returns-in-Ok-Nothing-clause-takes
 returns-in-Ok-Nothing-clause-takes g c =

@@ -8,6 +8,7 @@ use Rattle.crsm_port_flow.specs.Kept.{KeepsOnly, kept_in}
 use Rattle.crsm_port_flow.specs.Lost.{MayDrop}
 use Rattle.crsm_port_flow.specs.Same.{SameClients, SamePeers}
 use Rattle.crsm_port_flow.specs.Taken.{Comes, IsAsked, IsTaken}
+use Rattle.crsm_port_flow.specs.Windows.{WindowTakes}
 use Rattle.crsm_port_flow.specs.declared.inbound.Inbound.{Inbound}
 use Rattle.crsm_port_flow.proofs.flow.FlowPort.takes.Goals as goal
 
@@ -98,3 +99,9 @@ returns-in-Says-clause-known g c =
     let s = c.args.self.now in
     let same : c.in-Some.bytes.now ≡ take c.args.len s.room.items = grind (arith, common_steps, c.in-Some.ensures.lookup, c.deref.ensures.value) in
     subst (λ (b : List ℕ). AreKnownBy s.hearing.me c.args.from b s.now s.hearing.peers.items c.note.new.self.peers.items) same c.note.ensures.known
+
+pub returns-in-Open-clause-window : goal.returns-in-Open-clause-window
+returns-in-Open-clause-window g c =
+    let s = c.args.self.now in
+    let same : c.in-Some.bytes.now ≡ take c.args.len s.room.items = grind (arith, common_steps, c.in-Some.ensures.lookup, c.deref.ensures.value) in
+    subst (λ (b : List ℕ). WindowTakes c.args.from b s.now s.hearing.peers.items s.outbound.window c.note_received.new.self.window) same (inl (c.in-Open.ensures.peer refl, c.note_received.ensures.window))

@@ -28,3 +28,6 @@ pub returns-in-Some-head_in-clause-still : goal.returns-in-Some-head_in-clause-s
 returns-in-Some-head_in-clause-still c =
     let h = c.in-Some-head_in.field-0 in
     inr ((h.from, h.to, h.epoch, h.number, c.in-Some-head_in.ensures.head), c.hold.ensures.stay)
+
+pub returns-in-Some-clause-window : goal.returns-in-Some-clause-window
+returns-in-Some-clause-window c = let f = c.in-Some.frame in inl (f.from, f.to, f.epoch, f.number, c.in-Some.ensures.head, c.note_sent.ensures)
