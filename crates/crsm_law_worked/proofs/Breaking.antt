@@ -1,4 +1,4 @@
--- Runs in which a premise of the law of runs fails.
+-- Runs over disks that lose what was synced.
 use Rattle.std.proofs.Common.{Global, List, Vec, [], ap, arith, inl, inr, length, refl, subst, sym, ℕ, ◌∙◌, ◌∷◌, ◌≡◌, ◌≤◌}
 use Rattle.std.proofs.lemmas.Bool.{false≢true}
 use Rattle.crsm_spec.specs.Types.{Entry}
@@ -13,7 +13,7 @@ use Rattle.crsm_law_worked.specs.Values.{asked, asked_too, entry_b, first_life, 
 use Rattle.crsm_law_worked.specs.Files.{first_boot_body, first_file, first_kept_body, lost_body, lost_file}
 use Rattle.crsm_law_worked.specs.Orders.{order_of}
 use Rattle.crsm_law_worked.specs.Devices.{Moment}
-use Rattle.crsm_law_worked.specs.Breaking.{ClustersAreSmall, Disagree, ForgetfulDisksBreak, LostFilesBreak, forgetting}
+use Rattle.crsm_law_worked.specs.Breaking.{ClustersAreSmall, Disagree, Executes, ForgetfulDisksBreak, LostFilesBreak, forgetting}
 use Rattle.crsm_log.specs.Format.{bodies_of, found, reading}
 use Rattle.crsm_law_worked.proofs.Logs.{has_bodies, reads_first, reads_lost}
 use Rattle.crsm_node.specs.declared.errors.NodeEnd.TheVariants as ends
@@ -22,22 +22,22 @@ use Rattle.crsm_law_worked.proofs.Other as other
 
 -- ---- the processes disagree
 
+pub first_executes : Executes 1 first_life entry_b
+unfolding the_model asked kept_turns kept_steps
+first_executes = record { step = turn (boot 0 1 []).replica (Turn.In 77 asked, 5); kept = inr (inl refl); list = refl }
+
+pub other_executes : Executes 1 other_life lost_entry
+unfolding the_model asked_too kept_turns kept_steps
+other_executes = record { step = turn (boot 0 1 []).replica (Turn.In 78 asked_too, 7); kept = inr (inl refl); list = refl }
+
 abbrev client_of : Entry → ℕ
 client_of e = e.command.client
 
-disagree : Disagree 1 first_life other_life
-unfolding the_model asked asked_too kept_turns kept_steps
-disagree = record {
-  one = turn (boot 0 1 []).replica (Turn.In 77 asked, 5);
-  did = inr (inl refl);
-  first = entry_b;
-  had = refl;
-  two = turn (boot 0 1 []).replica (Turn.In 78 asked_too, 7);
-  does = inr (inl refl);
-  second = lost_entry;
-  has = refl;
-  differ = λ e. (let clients : ◌≡◌ {A = ℕ} 7 8 = ap client_of e in absurd (omega (arith, clients)));
-}
+pub differ : entry_b ≡ lost_entry → ⊥
+differ e = (let clients : ◌≡◌ {A = ℕ} 7 8 = ap client_of e in absurd (omega (arith, clients)))
+
+pub disagree : Disagree 1 first_life other_life
+disagree = record { first = entry_b; did = first_executes; second = lost_entry; does = other_executes; differ = differ }
 
 -- ---- the second run finds another file
 

@@ -1,11 +1,8 @@
 -- The history of the two processes, by computation.
-use Rattle.std.proofs.Common.{Bool, List, [], arith, false, inl, inr, refl, subst, suc, sym, true, zero, ℕ, ◌∙◌, ◌∷◌, ◌≡◌, ◌≤◌}
-use Rattle.std.specs.Prelude.{Some, nat_le, slice_get, ◌==◌, ◌^◌}
+use Rattle.std.proofs.Common.{Bool, List, [], arith, false, inl, inr, refl, subst, sym, true, ℕ, ◌∷◌, ◌≡◌, ◌≤◌}
+use Rattle.std.specs.Prelude.{Some, nat_le, ◌==◌, ◌^◌}
 use Rattle.std.specs.List.{AllByRecursion, flat_map}
 use Rattle.std.proofs.lemmas.Bool.{eqb-true, leb-true}
-use Rattle.std.proofs.lemmas.Option.{none-some, same_Some}
-use Rattle.crsm_base.specs.MessageReading.{datagram_of}
-use Rattle.crsm_spec.specs.Types.{Command, Datagram}
 use Rattle.crsm_spec.specs.Node.{Turn}
 use Rattle.crsm_spec_process.specs.Lives.{kept_turns}
 use Rattle.crsm_law_examples.proofs.Opened.{the_model}
@@ -15,20 +12,21 @@ use Rattle.crsm_law_cluster.specs.Histories.{clusters, clusters_from, last_from}
 use Rattle.crsm_law_cluster.specs.OneList.{lists, one_list}
 use Rattle.crsm_law_cluster.specs.Going.{IsReplied}
 use Rattle.crsm_law_lives.specs.Events.{AreEventsOf, events_of, fate_events, group_events, left_by, life_events, lives_of, node_of, take_events}
-use Rattle.crsm_law_lives.specs.Premises.{IsProcess, NobodyForges, SpeaksTrue}
+use Rattle.crsm_law_lives.specs.Premises.{IsProcess}
 use Rattle.crsm_law_processes.specs.Files.{FilesKeep, FindBodies, LeavesBodies, RanOnFiles, size_of}
 use Rattle.crsm_law_worked.specs.Values.{asked, asked_too, entry_b, entry_c, first_life, put_b, put_c, second_life}
 use Rattle.crsm_law_worked.specs.Files.{bodies_found, first_boot_body, second_boot_body, change_body, first_kept_body, second_kept_body}
 use Rattle.crsm_law_worked.specs.Worked.{happened, lives, the_answer}
 use Rattle.crsm_law_worked.proofs.Bytes.{are_bytes, read_back, read_too, small, small_too}
 use Rattle.crsm_law_worked.proofs.Logs.{kept_found, kept_second}
+use Rattle.crsm_law_worked.proofs.Requests.{Asks, nobody_forges}
 use Rattle.crsm_law_worked.proofs.First as first
 use Rattle.crsm_law_worked.proofs.Second as second
 
 -- ---- the events are those of the processes
 
 -- what is so of replica 0 and of all others
-by_number : (P : ℕ → Type 0) → P 0 → ((k : ℕ) → (0 == k) ≡ false → P k) → (k : ℕ) → P k
+pub by_number : (P : ℕ → Type 0) → P 0 → ((k : ℕ) → (0 == k) ≡ false → P k) → (k : ℕ) → P k
 by_number P zeroth others k = go (0 == k) refl
   where
     go : (a : Bool) → (0 == k) ≡ a → P k
@@ -86,36 +84,14 @@ are_processes = (
 
 -- ---- the network
 
--- what the event takes is no datagram in a replica's name
-abbrev Speaks : Event → Type 0
-Speaks (Event.Takes k (Turn.In address bytes) reading) = (i : ℕ) (d : Datagram) → datagram_of bytes ≡ Some d → SpeaksTrue 1 happened i k d
-Speaks (Event.Takes k Turn.Tick reading) = Unit {0}
-Speaks (Event.Takes k (Turn.Suspect members) reading) = Unit {0}
-Speaks (Event.Boots k) = Unit {0}
-Speaks (Event.Keeps k) = Unit {0}
-Speaks (Event.Sends k) = Unit {0}
-Speaks (Event.Fails k) = Unit {0}
-Speaks (Event.Stops k) = Unit {0}
-
-asks : (k : ℕ) (bytes : List ℕ) (c : Command) → datagram_of bytes ≡ Some (Datagram.Request c) → (i : ℕ) (d : Datagram) → datagram_of bytes ≡ Some d → SpeaksTrue 1 happened i k d
-asks k bytes c is i d same = subst (SpeaksTrue 1 happened i k) (same_Some (Datagram.Request c) d (sym is ∙ same)) tt
-
-all_speak : AllByRecursion Speaks happened
-all_speak = (
+all_ask : AllByRecursion Asks happened
+all_ask = (
   tt,
-  (asks 0 asked put_b read_back, (tt, (tt, (tt, (asks 0 asked_too put_c read_too, (tt, (tt, (tt, (tt, (tt, (tt, (tt, (tt, (asks 0 asked_too put_c read_too, (tt, (tt, (tt, tt))))))))))))))))),
+  ((put_b, read_back), (tt, (tt, (tt, ((put_c, read_too), (tt, (tt, (tt, (tt, (tt, (tt, (tt, (tt, ((put_c, read_too), (tt, (tt, (tt, tt))))))))))))))))),
 )
 
-pub at_place : {A : Type 0} (P : A → Type 0) (xs : List A) (i : ℕ) (x : A) → AllByRecursion P xs → slice_get xs i ≡ Some x → P x
-at_place P [] i x all is = absurd (none-some x is)
-at_place P (y ∷ ys) zero x all is = subst P (same_Some y x is) all.0
-at_place P (y ∷ ys) (suc i) x all is = at_place P ys i x all.1 is
-
-nobody_forges : NobodyForges 1 happened
-nobody_forges i k address reading bytes c d at is = at_place Speaks happened i (Event.Takes k (Turn.In address bytes) reading) all_speak at.event i d is
-
 pub ran : RanOnFiles 1 lives happened
-ran = record { are = are_events; processes = are_processes; files = files_keep; network = nobody_forges }
+ran = record { are = are_events; processes = are_processes; files = files_keep; network = nobody_forges 1 happened all_ask }
 
 -- ---- the answer
 

@@ -1,28 +1,25 @@
 -- The history of processes of which the first kept a group whose sync failed, by computation.
-use Rattle.std.proofs.Common.{Bool, List, [], arith, false, inl, inr, refl, subst, suc, sym, true, zero, ℕ, ◌∙◌, ◌∷◌, ◌≡◌, ◌≤◌}
-use Rattle.std.specs.Prelude.{Some, slice_get, ◌==◌, ◌^◌}
+use Rattle.std.proofs.Common.{Bool, List, [], arith, false, inl, inr, refl, subst, sym, true, ℕ, ◌∷◌, ◌≡◌, ◌≤◌}
+use Rattle.std.specs.Prelude.{◌==◌, ◌^◌}
 use Rattle.std.specs.List.{AllByRecursion, flat_map}
 use Rattle.std.proofs.lemmas.Bool.{eqb-true}
-use Rattle.std.proofs.lemmas.Option.{same_Some}
-use Rattle.crsm_base.specs.MessageReading.{datagram_of}
-use Rattle.crsm_spec.specs.Types.{Command, Datagram}
-use Rattle.crsm_spec.specs.Node.{Turn}
 use Rattle.crsm_spec_process.specs.Lives.{kept_turns}
 use Rattle.crsm_spec_process.specs.Turns.{replica_after}
 use Rattle.crsm_law_examples.proofs.Opened.{the_model}
 use Rattle.crsm_ledger.specs.Recovered.{AreKept}
-use Rattle.crsm_law_cluster.specs.Clusters.{Event, after, empty_host, host_at, kept, log_in, next_out, outgoing_of, posted, sent_of, started, unborn, while_up, with_host, with_process, with_turn}
+use Rattle.crsm_law_cluster.specs.Clusters.{after, empty_host, host_at, kept, log_in, next_out, outgoing_of, posted, sent_of, started, unborn, while_up, with_host, with_process, with_turn}
 use Rattle.crsm_law_cluster.specs.Histories.{clusters, clusters_from}
 use Rattle.crsm_law_cluster.specs.OneList.{lists, one_list}
 use Rattle.crsm_law_lives.specs.Events.{AreEventsOf, events_of, fate_events, group_events, left_by, life_events, lives_of, node_of, take_events}
-use Rattle.crsm_law_lives.specs.Premises.{IsProcess, NobodyForges, SpeaksTrue}
+use Rattle.crsm_law_lives.specs.Premises.{IsProcess}
 use Rattle.crsm_law_processes.specs.Files.{FilesKeep, FindBodies, LeavesBodies, RanOnFiles, size_of}
-use Rattle.crsm_law_worked.specs.Values.{asked, asked_too, entry_b, kept_life, kept_log, lost_entry, new_boot, new_life, put_b, put_c, second_boot, third_life}
+use Rattle.crsm_law_worked.specs.Values.{asked, asked_too, entry_b, kept_life, kept_log, lost_entry, new_life, put_b, put_c, third_life}
 use Rattle.crsm_law_worked.specs.Files.{first_boot_body, first_kept_body, kept_bodies, lost_body, new_boot_body, second_boot_body}
 use Rattle.crsm_law_worked.specs.Kept.{kept_events, kept_lives}
 use Rattle.crsm_law_worked.proofs.Bytes.{are_bytes, read_back, read_too, small, small_too}
 use Rattle.crsm_law_worked.proofs.Logs.{kept_lost, kept_new, kept_third}
-use Rattle.crsm_law_worked.proofs.History.{at_place, is_small}
+use Rattle.crsm_law_worked.proofs.Requests.{Asks, nobody_forges}
+use Rattle.crsm_law_worked.proofs.History.{is_small}
 
 -- ---- the events are those of the processes
 
@@ -86,28 +83,11 @@ are_processes = (
 
 -- ---- the network
 
--- what the event takes is no datagram in a replica's name
-abbrev Speaks : Event → Type 0
-Speaks (Event.Takes k (Turn.In address bytes) reading) = (i : ℕ) (d : Datagram) → datagram_of bytes ≡ Some d → SpeaksTrue 1 kept_events i k d
-Speaks (Event.Takes k Turn.Tick reading) = Unit {0}
-Speaks (Event.Takes k (Turn.Suspect members) reading) = Unit {0}
-Speaks (Event.Boots k) = Unit {0}
-Speaks (Event.Keeps k) = Unit {0}
-Speaks (Event.Sends k) = Unit {0}
-Speaks (Event.Fails k) = Unit {0}
-Speaks (Event.Stops k) = Unit {0}
-
-asks : (bytes : List ℕ) (c : Command) → datagram_of bytes ≡ Some (Datagram.Request c) → (i : ℕ) (d : Datagram) → datagram_of bytes ≡ Some d → SpeaksTrue 1 kept_events i 0 d
-asks bytes c is i d same = subst (SpeaksTrue 1 kept_events i 0) (same_Some (Datagram.Request c) d (sym is ∙ same)) tt
-
-all_speak : AllByRecursion Speaks kept_events
-all_speak = (tt, (asks asked put_b read_back, (tt, (tt, (tt, (asks asked_too put_c read_too, (tt, (tt, (tt, (tt, (tt, (tt, tt))))))))))))
-
-nobody_forges : NobodyForges 1 kept_events
-nobody_forges i k address reading bytes c d at is = at_place Speaks kept_events i (Event.Takes k (Turn.In address bytes) reading) all_speak at.event i d is
+all_ask : AllByRecursion Asks kept_events
+all_ask = (tt, ((put_b, read_back), (tt, (tt, (tt, ((put_c, read_too), (tt, (tt, (tt, (tt, (tt, (tt, tt))))))))))))
 
 pub ran : RanOnFiles 1 kept_lives kept_events
-ran = record { are = are_events; processes = are_processes; files = files_keep; network = nobody_forges }
+ran = record { are = are_events; processes = are_processes; files = files_keep; network = nobody_forges 1 kept_events all_ask }
 
 pub is_listed : one_list 1 kept_events ≡ entry_b ∷ lost_entry ∷ []
 unfolding the_model asked asked_too empty_host unborn outgoing_of started with_turn kept while_up with_process posted host_at log_in with_host next_out sent_of after clusters clusters_from lists one_list

@@ -1,20 +1,19 @@
 -- Runs over a file with a group whose sync failed meet the premises of the law of runs.
-use Rattle.std.proofs.Common.{Global, List, Vec, [], ap, arith, inl, inr, length, refl, subst, suc, sym, zero, ℕ, ◌<◌, ◌∷◌, ◌≡◌}
+use Rattle.std.proofs.Common.{Global, List, Vec, [], arith, inl, inr, length, refl, suc, zero, ℕ, ◌<◌, ◌∷◌, ◌≡◌}
 use Rattle.std.proofs.lemmas.Bool.{ne_eqb}
 use Rattle.crsm_spec.specs.Lists.{Among}
-use Rattle.crsm_spec_process.specs.Lives.{Life}
 use Rattle.crsm_law_lives.specs.Events.{lives_of}
 use Rattle.crsm_law_processes.specs.Files.{with_lost_kept}
 use Rattle.crsm_law_processes.specs.Laws.{ProcessesAreHistories, StepsOfProcessesAreRight}
 use Rattle.crsm_law_restarts.specs.Processes.{Were}
-use Rattle.crsm_law_restarts.specs.Runs.{AreRunsOf, HasNoBody}
+use Rattle.crsm_law_restarts.specs.Runs.{AreRunsOf}
 use Rattle.crsm_law_worked.specs.Devices.{at}
 use Rattle.crsm_law_worked.specs.Files.{first_file, lost_file}
 use Rattle.crsm_law_worked.specs.Values.{first_life, kept_life, new_life, third_life}
 use Rattle.crsm_law_worked.specs.Kept.{LostGroupsMayStay, kept_events, kept_lives, runs_kept}
 use Rattle.crsm_law_worked.proofs.First.{first_run}
-use Rattle.crsm_law_worked.proofs.Third.{third_run}
-use Rattle.crsm_law_worked.proofs.New.{new_run}
+use Rattle.crsm_law_worked.proofs.Idle.{idle_run}
+use Rattle.crsm_law_worked.proofs.IdleRuns.{new_run, third_run}
 use Rattle.crsm_law_worked.proofs.Runs.{no_body}
 use Rattle.crsm_law_worked.proofs.KeptHistory.{is_listed, ran}
 
@@ -43,7 +42,7 @@ module _ (peers : Vec ℕ Global) (two : length peers.items ≡ 2) where
   are_runs (suc (suc k)) lt = tt
 
   were_lives : (k : ℕ) → k < 15 → Were at (runs_kept peers two k) (lives_of k kept_lives)
-  unfolding lives_of first_run third_run new_run
+  unfolding lives_of first_run third_run new_run idle_run
   were_lives zero lt = (
     kept_life ∷ [],
     third_life ∷ [],

@@ -3,10 +3,13 @@ pub mod Logs
 pub mod First
 pub mod Second
 pub mod Other
+pub mod Requests
 pub mod History
 pub mod Runs
-pub mod Third
-pub mod New
+pub mod Idle
+pub mod IdleRuns
 pub mod KeptHistory
 pub mod KeptRuns
 pub mod Breaking
+pub mod Sizes
+pub mod Started

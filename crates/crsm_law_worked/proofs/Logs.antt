@@ -1,11 +1,12 @@
 -- The log files of the worked runs hold their logs, by computation.
 use Rattle.std.proofs.Common.{List, [], ap, arith, inl, inr, length, refl, subst, sym, true, ℕ, ◌++◌, ◌+◌, ◌<◌, ◌∙◌, ◌∷◌, ◌≡◌, ◌≤◌, ◌⊎◌}
 use Rattle.std.specs.Prelude.{nat_le, nat_lt}
-use Rattle.std.specs.List.{AllByRecursion}
+use Rattle.std.specs.List.{AllByRecursion, flat_map}
 use Rattle.std.proofs.lemmas.Bool.{leb-true, ltb-true}
 use Rattle.crsm_base.specs.declared.limits.TheConstants.{MAX_LOG_BYTES}
+use Rattle.crsm_base.specs.Limits.{most_bytes}
 use Rattle.crsm_base.specs.Records.{FitsRec, SpeltBody, body_bytes}
-use Rattle.crsm_base.specs.Spelling.{FitsBallot, FitsCommand, FitsDecision, FitsEntry, FitsStamp}
+use Rattle.crsm_base.specs.Spelling.{FitsBallot, FitsCommand, FitsDecision, FitsEntry, FitsStamp, entry_bytes}
 use Rattle.crsm_spec.specs.Types.{Rec}
 use Rattle.crsm_spec.specs.Log.{Log}
 use Rattle.crsm_fact_log.specs.Logs.{with_records}
@@ -15,8 +16,8 @@ use Rattle.crsm_ledger.specs.Recovered.{AreKept}
 use Rattle.crsm_shell.specs.Shell.{HasLog}
 use Rattle.crsm_shell.specs.Flushing.{IsFull}
 use Rattle.crsm_node.specs.Kept.{HasBehind}
-use Rattle.crsm_law_worked.specs.Values.{changing, decision, entry_b, entry_c, first_ballot, first_boot, first_kept, first_log, first_not_kept, kept_log, lost_entry, new_boot, other_log, put_b, put_c, second_boot, second_kept, second_log, stamp_at}
-use Rattle.crsm_law_worked.specs.Files.{begun_file, bodies_found, first_boot_body, second_boot_body, change_body, changed_file, file_with, first_file, first_kept_body, second_kept_body, kept_bodies, lost_body, lost_file, new_boot_body, new_file, other_file, second_begun_file, second_file, third_file}
+use Rattle.crsm_law_worked.specs.Values.{adopted, changing, decision, entry_b, entry_c, first_ballot, first_boot, first_kept, first_log, first_not_kept, kept_log, lost_entry, new_boot, other_log, put_b, put_c, second_boot, second_kept, second_log, stamp_at, used_log}
+use Rattle.crsm_law_worked.specs.Files.{adopted_body, begun_file, bodies_found, first_boot_body, second_boot_body, change_body, changed_file, file_with, first_file, first_kept_body, second_kept_body, kept_bodies, lost_body, lost_file, new_boot_body, new_file, other_file, reused_file, second_begun_file, second_file, third_file, used_bodies, used_file}
 
 -- ---- the bodies of each file
 
@@ -51,6 +52,14 @@ reads_third = refl
 pub reads_new : reading new_file ≡ found (new_boot_body ∷ [])
 unfolding the_model new_file file_with new_boot_body is_cluster length_of may_stand stands
 reads_new = refl
+
+pub reads_used : reading used_file ≡ found used_bodies
+unfolding the_model used_file file_with new_boot_body adopted_body is_cluster length_of may_stand stands
+reads_used = refl
+
+pub reads_reused : reading reused_file ≡ found (new_boot_body ∷ adopted_body ∷ new_boot_body ∷ [])
+unfolding the_model reused_file file_with new_boot_body adopted_body is_cluster length_of may_stand stands
+reads_reused = refl
 
 pub reads_other : reading other_file ≡ found (first_boot_body ∷ lost_body ∷ [])
 unfolding the_model other_file file_with first_boot_body lost_body is_cluster length_of may_stand stands
@@ -99,6 +108,10 @@ room_for_third_boot = room lost_file second_boot_body refl refl
 pub room_for_new_boot : IsFull [] new_boot_body → ⊥
 unfolding the_model new_boot_body is_cluster length_of may_stand stands
 room_for_new_boot = room [] new_boot_body refl refl
+
+pub room_for_used_boot : IsFull used_file new_boot_body → ⊥
+unfolding the_model used_file file_with new_boot_body adopted_body is_cluster length_of may_stand stands
+room_for_used_boot = room used_file new_boot_body refl refl
 
 pub room_for_change : IsFull second_begun_file change_body → ⊥
 unfolding the_model second_begun_file file_with first_boot_body first_kept_body second_boot_body change_body is_cluster length_of may_stand stands
@@ -166,13 +179,20 @@ fit_second_boot = ((omega arith, omega arith), tt)
 fit_new_boot : AllByRecursion FitsRec new_boot
 fit_new_boot = ((omega arith, omega arith), tt)
 
+adopted_small : length (flat_map entry_bytes (lost_entry ∷ [])) ≤ most_bytes
+unfolding the_model
+adopted_small = leb-true (length (flat_map entry_bytes (lost_entry ∷ []))) most_bytes refl
+
+fit_adopted : AllByRecursion FitsRec adopted
+fit_adopted = ((omega arith, record { most = omega arith; fit = (fits_lost_entry, tt); rises = tt; size = adopted_small }), tt)
+
 fit_changing : AllByRecursion FitsRec changing
 fit_changing = (omega arith, ((omega arith, fits_ballot), ((omega arith, fits_ballot, fits_decision), (fits_decision, (omega arith, tt)))))
 
 fit_second_kept : AllByRecursion FitsRec second_kept
 fit_second_kept = (fits_entry_c, (fits_stamp 6000002 refl, tt))
 
-spelt : (recs : List Rec) → 1 ≤ length recs → AllByRecursion FitsRec recs → SpeltBody recs (body_bytes recs)
+pub spelt : (recs : List Rec) → 1 ≤ length recs → AllByRecursion FitsRec recs → SpeltBody recs (body_bytes recs)
 spelt recs some fit = record { fits = record { some = some; fit = fit }; is = refl }
 
 -- ---- the logs
@@ -223,6 +243,29 @@ pub kept_new : AreKept 1 1 [] (new_boot_body ∷ []) (with_records [] new_boot)
 unfolding the_model new_boot_body
 kept_new = (new_boot, spelt new_boot (omega arith) fit_new_boot, (refl, tt), refl)
 
+pub kept_used : AreKept 1 1 [] used_bodies used_log
+unfolding the_model new_boot_body adopted_body
+kept_used = (
+  new_boot,
+  spelt new_boot (omega arith) fit_new_boot,
+  (refl, tt),
+  (adopted, spelt adopted (omega arith) fit_adopted, (refl, tt), refl),
+)
+
+pub kept_reused : AreKept 1 1 [] (new_boot_body ∷ adopted_body ∷ new_boot_body ∷ []) (with_records used_log new_boot)
+unfolding the_model new_boot_body adopted_body
+kept_reused = (
+  new_boot,
+  spelt new_boot (omega arith) fit_new_boot,
+  (refl, tt),
+  (
+    adopted,
+    spelt adopted (omega arith) fit_adopted,
+    (refl, tt),
+    (new_boot, spelt new_boot (omega arith) fit_new_boot, (refl, tt), refl),
+  ),
+)
+
 pub kept_second : AreKept 0 1 [] (first_boot_body ∷ first_kept_body ∷ second_boot_body ∷ change_body ∷ second_kept_body ∷ []) second_log
 unfolding the_model first_boot_body first_kept_body second_boot_body change_body second_kept_body
 kept_second = (
@@ -256,14 +299,8 @@ kept_other = (
   (first_not_kept, spelt first_not_kept (omega arith) fit_first_not_kept, (refl, (refl, tt)), refl),
 )
 
-pub has_log : (file : List ℕ) (bodies : List (List ℕ)) (log : Log) → reading file ≡ found bodies → AreKept 0 1 [] bodies log → HasLog 0 1 file log
+pub has_log : (me : ℕ) (file : List ℕ) (bodies : List (List ℕ)) (log : Log) → reading file ≡ found bodies → AreKept me 1 [] bodies log → HasLog me 1 file log
 unfolding HasLog
-has_log file bodies log is kept =
+has_log me file bodies log is kept =
     let same = has_bodies file bodies is in
-    record { whole = is ∙ ap found (sym same); kept = subst (λ (bs : List (List ℕ)). AreKept 0 1 [] bs log) (sym same) kept }
-
-pub has_new_log : HasLog 1 1 new_file (with_records [] new_boot)
-unfolding HasLog
-has_new_log =
-    let same = has_bodies new_file (new_boot_body ∷ []) reads_new in
-    record { whole = reads_new ∙ ap found (sym same); kept = subst (λ (bs : List (List ℕ)). AreKept 1 1 [] bs (with_records [] new_boot)) (sym same) kept_new }
+    record { whole = is ∙ ap found (sym same); kept = subst (λ (bs : List (List ℕ)). AreKept me 1 [] bs log) (sym same) kept }

@@ -85,7 +85,7 @@ pub are_addressed : (peers : List ℕ) → AreAddressed peers start other_life.g
 unfolding to_address
 are_addressed peers = subst (AllByRecursion (HasAddress peers)) (sym all_sent) (refl, tt)
 
-packets_are : (peers : List ℕ) → packets_gone peers start other_life.groups ≡ packet 78 answered_too ∷ []
+pub packets_are : (peers : List ℕ) → packets_gone peers start other_life.groups ≡ packet 78 answered_too ∷ []
 unfolding packets_gone packets_for packet_for to_address answered_too
 packets_are peers = ap (packets_for peers) all_sent
 
@@ -166,7 +166,7 @@ keeps peers two = record {
   put = put_so;
   bodies = has_all;
   is = λ _. refl;
-  log = subst (HasLog 0 1 other_file) (sym log_left) (has_log other_file (first_boot_body ∷ lost_body ∷ []) other_log reads_other kept_other);
+  log = subst (HasLog 0 1 other_file) (sym log_left) (has_log 0 other_file (first_boot_body ∷ lost_body ∷ []) other_log reads_other kept_other);
   stops = tt;
   synced = left_at_end;
   any_moment = record {

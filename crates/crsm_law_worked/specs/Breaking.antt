@@ -1,4 +1,4 @@
--- Runs in which a premise of the law of runs fails, and agreement with it.
+-- Runs over disks that lose what was synced: a premise of the law of runs fails, and agreement with it.
 use Rattle.std.proofs.Common.{Global, Vec, refl}
 use Rattle.std.specs.Prelude.{List, None, [], false, length, ℕ, ◌∷◌, ◌≡◌, ◌≤◌}
 use Rattle.crsm_spec.specs.Types.{Entry}
@@ -20,16 +20,18 @@ use Rattle.crsm_node.specs.declared.errors.NodeEnd.TheVariants as ends
 abbrev pub other_of : (peers : Vec ℕ Global) → length peers.items ≡ 2 → Run Moment
 other_of peers two = record { order = order_of 1 peers two; before = Moment.OtherBegins; after = Moment.OtherEnds; end = ends.Done }
 
--- Of two processes of one replica, steps that both kept have executed different entries at the first place.
+-- A step that the process kept has executed this entry, and no other.
+pub record Executes (n : ℕ) (l : Life) (e : Entry) : Type 0 where
+  pub step : Draft
+  pub kept : Among (kept_steps n l) step
+  pub list : executed step.replica.log ≡ e ∷ []
+
+-- Of two processes, steps that they kept have executed different entries at the first place.
 pub record Disagree (n : ℕ) (l m : Life) : Type 0 where
-  pub one : Draft
-  pub did : Among (kept_steps n l) one
   pub first : Entry
-  pub had : executed one.replica.log ≡ first ∷ []
-  pub two : Draft
-  pub does : Among (kept_steps n m) two
+  pub did : Executes n l first
   pub second : Entry
-  pub has : executed two.replica.log ≡ second ∷ []
+  pub does : Executes n m second
   pub differ : first ≡ second → ⊥
 
 -- Two runs of a node over honest disks, of which the second finds an empty file, which the first cannot leave: the

@@ -11,7 +11,7 @@ use Rattle.crsm_spec_process.specs.Lives.{kept_turns}
 use Rattle.crsm_node.specs.Running.{Devices}
 use Rattle.crsm_text_sheet.specs.Sheets.{sheet_of, sheet_text}
 use Rattle.crsm_law_worked.specs.Values.{answered, answered_too, asked, asked_too, first_life, other_life, second_life}
-use Rattle.crsm_law_worked.specs.Files.{begun_file, bodies_found, changed_file, first_file, kept_bodies, lost_file, new_file, other_file, second_begun_file, second_file, third_file}
+use Rattle.crsm_law_worked.specs.Files.{begun_file, bodies_found, changed_file, first_file, kept_bodies, lost_file, new_file, other_file, reused_file, second_begun_file, second_file, third_file, used_bodies, used_file}
 
 -- ---- each device
 
@@ -67,10 +67,33 @@ clock_with latest ahead = Some (record { latest = latest; ahead = ahead })
 abbrev pub packet : ℕ → List ℕ → Packet
 packet address bytes = record { address = address; bytes = bytes }
 
+-- ---- a run that takes no turn
+
+-- all devices of a node that finds this file
+abbrev pub idle_begins : List ℕ → Devices
+idle_begins file = record {
+  disk = disk_with file (file ∷ []) [] (inl refl) 0 0;
+  port = port_with [] [] [] 0;
+  clock = clock_with 0 [];
+  sheet = Some [];
+  faults = 0;
+}
+
+-- the same once it has booted on it, where the file had these bodies
+abbrev pub idle_ends : (file later : List ℕ) → List (List ℕ) → Devices
+idle_ends file later bodies = record {
+  disk = disk_with later (later ∷ []) (file ∷ []) (inl refl) 1 0;
+  port = port_with [] [] [] 0;
+  clock = clock_with 0 [];
+  sheet = Some (sheet_text (sheet_of bodies []));
+  faults = 0;
+}
+
 -- ---- all devices of each run
 
 -- before and after the first run, and before and after the second; before and after one that finds what the first had
--- not synced, and that of another replica; and before and after one that does not find the file of the first
+-- not synced, that of another replica, and one that finds a file of another cluster; and before and after one that does
+-- not find the file of the first
 pub data Moment : Type 0 where
   FirstBegins : Moment
   FirstEnds : Moment
@@ -80,6 +103,8 @@ pub data Moment : Type 0 where
   ThirdEnds : Moment
   NewBegins : Moment
   NewEnds : Moment
+  UsedBegins : Moment
+  UsedEnds : Moment
   OtherBegins : Moment
   OtherEnds : Moment
 
@@ -114,34 +139,12 @@ at Moment.SecondEnds = record {
   sheet = Some (sheet_text (sheet_of bodies_found (kept_turns second_life.groups)));
   faults = 0;
 }
-at Moment.ThirdBegins = record {
-  disk = disk_with lost_file (lost_file ∷ []) [] (inl refl) 0 0;
-  port = port_with [] [] [] 0;
-  clock = clock_with 0 [];
-  sheet = Some [];
-  faults = 0;
-}
-at Moment.ThirdEnds = record {
-  disk = disk_with third_file (third_file ∷ []) (lost_file ∷ []) (inl refl) 1 0;
-  port = port_with [] [] [] 0;
-  clock = clock_with 0 [];
-  sheet = Some (sheet_text (sheet_of kept_bodies []));
-  faults = 0;
-}
-at Moment.NewBegins = record {
-  disk = disk_with [] ([] ∷ []) [] (inl refl) 0 0;
-  port = port_with [] [] [] 0;
-  clock = clock_with 0 [];
-  sheet = Some [];
-  faults = 0;
-}
-at Moment.NewEnds = record {
-  disk = disk_with new_file (new_file ∷ []) ([] ∷ []) (inl refl) 1 0;
-  port = port_with [] [] [] 0;
-  clock = clock_with 0 [];
-  sheet = Some (sheet_text (sheet_of [] []));
-  faults = 0;
-}
+at Moment.ThirdBegins = idle_begins lost_file
+at Moment.ThirdEnds = idle_ends lost_file third_file kept_bodies
+at Moment.NewBegins = idle_begins []
+at Moment.NewEnds = idle_ends [] new_file []
+at Moment.UsedBegins = idle_begins used_file
+at Moment.UsedEnds = idle_ends used_file reused_file used_bodies
 at Moment.OtherBegins = record {
   disk = disk_with [] ([] ∷ []) [] (inl refl) 0 0;
   port = port_with (packet 78 asked_too ∷ []) [] [] 0;

@@ -2,7 +2,7 @@
 use Rattle.std.specs.Prelude.{List, [], length, ℕ, ◌++◌, ◌∷◌}
 use Rattle.crsm_base.specs.Records.{body_bytes}
 use Rattle.crsm_log.specs.Format.{four_bytes}
-use Rattle.crsm_law_worked.specs.Values.{changing, first_boot, first_kept, first_not_kept, new_boot, second_boot, second_kept}
+use Rattle.crsm_law_worked.specs.Values.{adopted, changing, first_boot, first_kept, first_not_kept, new_boot, second_boot, second_kept}
 
 -- the file of a log with these bodies, each behind an open gate, and a closed gate behind them
 unfoldable pub file_with : List (List ℕ) → List ℕ
@@ -31,6 +31,9 @@ second_kept_body = body_bytes second_kept
 unfoldable pub new_boot_body : List ℕ
 new_boot_body = body_bytes new_boot
 
+unfoldable pub adopted_body : List ℕ
+adopted_body = body_bytes adopted
+
 -- the bodies that the second run finds
 abbrev pub bodies_found : List (List ℕ)
 bodies_found = first_boot_body ∷ first_kept_body ∷ []
@@ -38,6 +41,10 @@ bodies_found = first_boot_body ∷ first_kept_body ∷ []
 -- those that the first run leaves where its last group is on the disk though the sync of it failed
 abbrev pub kept_bodies : List (List ℕ)
 kept_bodies = first_boot_body ∷ first_kept_body ∷ lost_body ∷ []
+
+-- those of replica 1 of another cluster, which has adopted an entry
+abbrev pub used_bodies : List (List ℕ)
+used_bodies = new_boot_body ∷ adopted_body ∷ []
 
 -- the file once the first run has booted, once it has kept its first group, and with the group that it lost
 unfoldable pub begun_file : List ℕ
@@ -66,6 +73,13 @@ third_file = file_with (first_boot_body ∷ first_kept_body ∷ lost_body ∷ se
 -- the file of replica 1, once it has booted
 unfoldable pub new_file : List ℕ
 new_file = file_with (new_boot_body ∷ [])
+
+-- the file of replica 1 of another cluster, and once a run has booted on it
+unfoldable pub used_file : List ℕ
+used_file = file_with used_bodies
+
+unfoldable pub reused_file : List ℕ
+reused_file = file_with (new_boot_body ∷ adopted_body ∷ new_boot_body ∷ [])
 
 -- the file of a run that boots anew and takes what the first run lost
 unfoldable pub other_file : List ℕ

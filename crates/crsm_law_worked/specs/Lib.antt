@@ -4,4 +4,5 @@ pub mod Orders
 pub mod Devices
 pub mod Worked
 pub mod Breaking
+pub mod Started
 pub mod Kept

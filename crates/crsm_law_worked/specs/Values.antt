@@ -116,16 +116,30 @@ kept_life = record {
 abbrev pub kept_log : Log
 kept_log = with_records first_log first_not_kept
 
--- it boots on that log, and ends
-abbrev pub third_life : Life
-third_life = record { me = 0; found = kept_log; groups = []; lost = []; ended = true }
+-- a process that boots on a log, and ends
+abbrev pub idle_life : ℕ → Log → Life
+idle_life me log = record { me = me; found = log; groups = []; lost = []; ended = true }
 
--- replica 1, which the cluster did not begin with, boots for the first time, and ends
+-- replica 0 on that log
+abbrev pub third_life : Life
+third_life = idle_life 0 kept_log
+
+-- replica 1, which the cluster did not begin with, boots for the first time
 abbrev pub new_life : Life
-new_life = record { me = 1; found = []; groups = []; lost = []; ended = true }
+new_life = idle_life 1 []
 
 abbrev pub new_boot : List Rec
 new_boot = Rec.Boot 1 1 ∷ []
+
+-- replica 1 of another cluster has adopted an entry of client 8; replica 1 of this one boots on its log
+abbrev pub adopted : List Rec
+adopted = Rec.Adopt 0 (lost_entry ∷ []) ∷ []
+
+abbrev pub used_log : Log
+used_log = with_records (with_records [] new_boot) adopted
+
+abbrev pub used_life : Life
+used_life = idle_life 1 used_log
 
 -- It boots where the file of the first process is missing, and answers client 8 at once.
 abbrev pub other_life : Life

@@ -1,10 +1,11 @@
-//! Worked runs of a cluster's nodes, over devices that are written out: two runs of a node that meet the premises of the
-//! law of runs, and runs in which one of its premises fails and agreement with it.
+//! Worked runs of a cluster's nodes, over devices that are written out: two runs of a node that meet the premises of
+//! the law of runs, and runs in which one of its premises fails and agreement with it.
 #![tactic(auto)]
 
 ghost use Rattle.std.specs.Prelude.{◌≡◌, length};
 ghost use Rattle.crsm_law_worked.specs.Breaking.{ClustersAreSmall, ForgetfulDisksBreak, LostFilesBreak};
 ghost use Rattle.crsm_law_worked.specs.Kept.{LostGroupsMayStay};
+ghost use Rattle.crsm_law_worked.specs.Started.{SharedNumbersBreak, UsedFilesBreak, WrongSizesBreak};
 ghost use Rattle.crsm_law_worked.specs.Worked.{WorkedRuns};
 
 use crsm_law_processes::{processes_are_histories, steps_of_processes_are_right};
@@ -44,6 +45,30 @@ pub fn forgetful_disks_break(peers: &Vec<u64>)
     requires two { length peers.now.items ≡ 2 }
     ensures { (two : length peers.now.items ≡ 2) → ForgetfulDisksBreak peers.now two }
 {}
+
+/// Shows a node of replica 1 that is started with the number 0, on an empty file of its own: it and the node of
+/// replica 0 execute different entries at one place.
+pub fn shared_numbers_break(peers: &Vec<u64>)
+    requires two { length peers.now.items ≡ 2 }
+    ensures { (two : length peers.now.items ≡ 2) → SharedNumbersBreak peers.now two }
+{}
+
+/// Shows a first run of replica 1 that finds a file with an entry that another cluster executed: it and the run of
+/// replica 0 execute different entries at one place.
+pub fn used_files_break(peers: &Vec<u64>)
+    requires two { length peers.now.items ≡ 2 }
+    ensures { (two : length peers.now.items ≡ 2) → UsedFilesBreak peers.now two }
+{}
+
+/// Shows a node that was told that its cluster began with one replica, where it began with three: it executes an entry
+/// and answers the client, and in the history of its process nothing is executed.
+pub fn wrong_sizes_break(peers: &Vec<u64>)
+    requires two { length peers.now.items ≡ 2 }
+    ensures { (two : length peers.now.items ≡ 2) → WrongSizesBreak peers.now two }
+{
+    processes_are_histories();
+    steps_of_processes_are_right();
+}
 
 /// States that each cluster in which a node runs began with at most 15 replicas.
 pub fn clusters_are_small()
