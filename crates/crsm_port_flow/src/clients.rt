@@ -63,7 +63,7 @@ impl Clients {
 
     /// Returns a state without requests, or `NoMemory` if memory runs out.
     pub(crate) fn new(alloc: Global) -> Result<Clients, NoMemory>
-        ensures { IfOk result (λ c. (c.requests.waiting.items ≡ []) × (c.operate ≡ None)) }
+        ensures { IfOk result (λ c. (c.requests.waiting.items ≡ []) × (c.operate ≡ None) × (c.requests.unanswered.entries ≡ [])) }
     {
         Ok(Clients {
             alloc,

@@ -108,6 +108,7 @@ impl<P: Drop, C: Drop> FlowPort<P, C> {
         ensures frames { IfOk result (λ p. All (λ f. f.at ≡ 0) p.outbound.repeats.last.items) }
         ensures parts { IfOk result (λ p. All (λ q. q.at ≡ 0) p.outbound.parts.last.items) }
         ensures window { IfOk result (λ p. p.outbound.window ≡ new_window 0) }
+        ensures unanswered { IfOk result (λ p. p.inbound.clients.requests.unanswered.entries ≡ []) }
     {
         Ok(FlowPort {
             port: inner,

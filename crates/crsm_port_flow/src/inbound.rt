@@ -31,7 +31,8 @@ pub(crate) struct Inbound {
 impl Inbound {
     /// Returns a state without datagrams, or `NoMemory` if memory runs out.
     pub(crate) fn new(alloc: Global) -> Result<Inbound, NoMemory>
-        ensures { IfOk result (λ i. NoMore (λ _ _. ⊥) (kept_in i)) }
+        ensures kept { IfOk result (λ i. NoMore (λ _ _. ⊥) (kept_in i)) }
+        ensures unanswered { IfOk result (λ i. i.clients.requests.unanswered.entries ≡ []) }
     {
         Ok(Inbound {
             peers: FromPeers::new(alloc)?,

@@ -69,7 +69,8 @@ impl Requests {
 
     /// Returns an empty record, or `NoMemory` if memory runs out.
     pub(crate) fn new(alloc: Global) -> Result<Requests, NoMemory>
-        ensures { IfOk result (λ r. r.waiting.items ≡ []) }
+        ensures waiting { IfOk result (λ r. r.waiting.items ≡ []) }
+        ensures unanswered { IfOk result (λ r. r.unanswered.entries ≡ []) }
     {
         Ok(Requests {
             waiting: VecDeque::with_capacity(alloc, MOST_KEPT)?,

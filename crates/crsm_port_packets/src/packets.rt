@@ -13,7 +13,7 @@ ghost use Rattle.crsm_port_packets.specs.Format.{is_packed};
 ghost use Rattle.crsm_port_packets.specs.Given.{AllGreet, LetsGo, LetsGoAndGreets, MayLetGo, SendsAll};
 ghost use Rattle.crsm_port_packets.specs.Held.{Opens, fragments_with, unpacked};
 ghost use Rattle.crsm_port_packets.specs.Peers.{IsPeer, SamePeers, Speaks, addresses_of, unheard};
-ghost use Rattle.crsm_port_packets.specs.Receiving.{IsAsItIs, IsDatagram, IsOpenedOf, NoneLeft};
+ghost use Rattle.crsm_port_packets.specs.Receiving.{IsAsItIs, IsDatagram, IsOpenedOf, NoneLeft, left_in};
 ghost use Rattle.crsm_port_packets.specs.Sent.{sent_with};
 
 use crate::bundle::send_waiting;
@@ -79,7 +79,8 @@ impl<P: Drop, C: Drop> PacketsPort<P, C> {
         clock: C,
         peers: &[u64],
     ) -> Result<PacketsPort<P, C>, NoMemory>
-        ensures { IfOk result (λ p. (p.port ≡ inner) × (p.clock ≡ clock) × (p.peers.items ≡ map unheard peers.now) × (packets_of p.waiting ≡ [])) }
+        ensures made { IfOk result (λ p. (p.port ≡ inner) × (p.clock ≡ clock) × (p.peers.items ≡ map unheard peers.now) × (packets_of p.waiting ≡ [])) }
+        ensures nothing { IfOk result (λ p. (left_in p.received.unpacking ≡ []) × (p.received.fragments.pieces.items ≡ [])) }
     {
         let mut known = Vec::with_capacity(alloc, peers.len())?;
         for address in peers {

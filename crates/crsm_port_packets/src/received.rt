@@ -1,13 +1,13 @@
 //! What was received and is not handed up yet.
 
-ghost use Rattle.std.specs.Prelude.{◌≡◌, ◌⊎◌, IfSome, None, length};
+ghost use Rattle.std.specs.Prelude.{◌≡◌, ◌⊎◌, [], IfOk, IfSome, None, length};
 ghost use Rattle.crsm_port.specs.Meaning.{IsWithin};
 ghost use Rattle.crsm_port.specs.Passing.{Cut, IsOf, NoMore, Only};
 ghost use Rattle.crsm_port_faults.specs.Counts.{Rose};
 ghost use Rattle.crsm_port_packets.specs.Carrying.{put_together};
 ghost use Rattle.crsm_port_packets.specs.Format.{StandsIn};
 ghost use Rattle.crsm_port_packets.specs.Held.{Opens, fragments_with};
-ghost use Rattle.crsm_port_packets.specs.Receiving.{Begins, IsDatagram, IsOpened, NoneLeft, TakesNext};
+ghost use Rattle.crsm_port_packets.specs.Receiving.{Begins, IsDatagram, IsOpened, NoneLeft, TakesNext, left_in};
 ghost use Rattle.crsm_port_packets.specs.Waiting.{waiting_in};
 
 use crate::format::{MOST_FRAGMENTS, MOST_IN_FRAGMENT, PacketKind, kind_of};
@@ -31,7 +31,9 @@ pub(crate) struct Received {
 
 impl Received {
     /// Returns a state in which nothing was received. `NoMemory` if memory runs out.
-    pub(crate) fn new(alloc: Global) -> Result<Received, NoMemory> {
+    pub(crate) fn new(alloc: Global) -> Result<Received, NoMemory>
+        ensures { IfOk result (λ r. (left_in r.unpacking ≡ []) × (r.fragments.pieces.items ≡ [])) }
+    {
         Ok(Received {
             unpacking: Unpacking::new(alloc),
             fragments: Fragments::new(alloc),
