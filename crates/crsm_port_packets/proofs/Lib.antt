@@ -1,6 +1,7 @@
 mod Askings
 mod Bundles
 mod Counted
+mod Crowds
 mod Cuttings
 mod Goings
 mod Greetings

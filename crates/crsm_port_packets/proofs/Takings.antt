@@ -1,9 +1,9 @@
 -- What a packet that was taken leaves, and the datagram that it completes.
-use Rattle.std.proofs.Common.{◌≡◌, ◌∙◌, ℕ, List, ◌∷◌, refl, sym, subst, inl, inr}
+use Rattle.std.proofs.Common.{◌≡◌, ℕ, List, ◌∷◌, refl, sym, subst, inl, inr}
 use Rattle.crsm_port.specs.Passing.{Cut, IsOf, NoMore, Only}
 use Rattle.crsm_port.specs.declared.port.Recv.{Recv}
 use Rattle.crsm_port_packets.specs.Carrying.{put_together}
-use Rattle.crsm_port_packets.specs.Format.{FragmentFields, IsFragment, IsNoBundle, StandsIn}
+use Rattle.crsm_port_packets.specs.Format.{FragmentFields, IsFragment, StandsIn}
 use Rattle.crsm_port_packets.specs.Held.{Opens, fragments_with}
 use Rattle.crsm_port_packets.specs.Kept.{GainsOnly, kept_in}
 use Rattle.crsm_port_packets.specs.Waiting.{waiting_in}
@@ -51,6 +51,3 @@ whole_given from packet whole buffer f old pieces got is gains together handed =
         subst (λ (x : ℕ). put_together (fragments_with (Only from packet) old) x d) (sym at)
         (subst (λ (x : List ℕ). put_together (fragments_with (Only from packet) old) from x) (sym same)
         (put_more (fragments_with (Only from packet) old) (kept_in pieces) has from whole together))
-
-pub fragment_no_bundle : (packet : List ℕ) (f : FragmentFields) → IsFragment packet f → IsNoBundle packet
-fragment_no_bundle packet f (rest, is, _) entries bundle = let both : (17 ∷ 1 ∷ rest) ≡ (17 ∷ 0 ∷ entries) = sym is ∙ bundle in cc

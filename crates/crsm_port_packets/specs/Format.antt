@@ -1,5 +1,5 @@
 -- The format of packets: a datagram as it is, a bundle of datagrams, or a fragment of one.
-use Rattle.std.specs.Prelude.{◌≡◌, ◌++◌, ◌+◌, ◌*◌, ◌/◌, ◌%◌, ℕ, List, [], ◌∷◌, length, take, drop, Bool, false, nat_eq, nat_le, Option, Some, None, if◌then◌else◌}
+use Rattle.std.specs.Prelude.{◌≡◌, ◌++◌, ◌+◌, ◌*◌, ◌/◌, ◌%◌, ◌<◌, ℕ, List, [], ◌∷◌, length, take, drop, Bool, false, nat_eq, nat_le, Option, Some, None, if◌then◌else◌}
 use Rattle.crsm_base.specs.Reading.{u64_at}
 use Rattle.crsm_port_packets.specs.declared.format.Fragment.{Fragment}
 use Rattle.crsm_port_packets.specs.declared.format.PacketKind.{PacketKind}
@@ -49,9 +49,19 @@ fields_of f = record { number = f.number; index = f.index; count = f.count; byte
 abbrev pub IsFragment : List ℕ → FragmentFields → Type 0
 IsFragment packet f = (rest : List ℕ) × (packet ≡ 17 ∷ 1 ∷ rest) × (u64_at rest ≡ Some (f.number, f.index ∷ f.count ∷ f.bytes))
 
+-- the packet is no whole fragment with an index below its count
+abbrev pub IsNoFragment : List ℕ → Type 0
+IsNoFragment packet = (f : FragmentFields) → IsFragment packet f → f.index < f.count → ⊥
+
 -- ---- what the first bytes say
+
+-- a fragment has an index below its count
+abbrev pub IsWithinCount : PacketKind → Type 0
+IsWithinCount (kinds.Bundle entries) = Unit {0}
+IsWithinCount (kinds.Fragment f) = f.index < f.count
+IsWithinCount kinds.Other = Unit {0}
 
 abbrev pub IsOfKind : List ℕ → PacketKind → Type 0
 IsOfKind packet (kinds.Bundle entries) = packet ≡ 17 ∷ 0 ∷ entries.now
 IsOfKind packet (kinds.Fragment f) = IsFragment packet (fields_of f)
-IsOfKind packet kinds.Other = IsNoBundle packet
+IsOfKind packet kinds.Other = IsNoBundle packet × IsNoFragment packet

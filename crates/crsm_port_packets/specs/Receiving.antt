@@ -1,9 +1,10 @@
 -- What becomes of a packet that came up.
-use Rattle.std.specs.Prelude.{◌≡◌, ◌⊎◌, ℕ, List, ◌∷◌, length, min, take, drop, Contains, false, true, Some, None}
+use Rattle.std.specs.Prelude.{◌≡◌, ◌⊎◌, ◌<◌, ℕ, List, ◌∷◌, length, min, take, drop, Contains, false, true, Some, None}
 use Rattle.crsm_port.specs.declared.port.Recv.{Recv}
 use Rattle.crsm_port.specs.declared.port.Recv.TheVariants.{Nothing, Datagram}
 use Rattle.crsm_port_faults.specs.Counts.{Rose}
-use Rattle.crsm_port_packets.specs.Format.{IsNoBundle, entry_at, is_packed}
+use Rattle.crsm_port_packets.specs.Format.{FragmentFields, IsFragment, IsNoBundle, IsNoFragment, entry_at, is_packed}
+use Rattle.crsm_port_packets.specs.Kept.{KeepsFragment}
 use Rattle.crsm_port_packets.specs.declared.received.Received.{Received}
 use Rattle.crsm_port_packets.specs.declared.unpacking.Unpacking.{Unpacking}
 
@@ -37,10 +38,17 @@ Begins from entries u = (u.from ≡ from) × (left_in u ≡ entries)
 
 -- ---- a packet
 
--- a packet of a peer that gives no datagram yet: a bundle is taken apart from then on, or is counted as one for which there was no memory
+-- a bundle is taken apart from now on
+abbrev pub OpensBundle : ℕ → List ℕ → Received → Received → Type 0
+OpensBundle from packet old new = (entries : List ℕ) × (packet ≡ 17 ∷ 0 ∷ entries) × (Begins from entries new.unpacking ⊎ Rose old.unkept new.unkept)
+
+-- a fragment of a datagram of at most seven is kept until the others have come
+abbrev pub OpensFragment : ℕ → List ℕ → Received → Received → Type 0
+OpensFragment from packet old new = (f : FragmentFields) × IsFragment packet f × (new.unpacking ≡ old.unpacking) × ((7 < f.count) ⊎ (KeepsFragment from f old.fragments.pieces.items new.fragments.pieces.items ⊎ Rose old.unkept new.unkept))
+
+-- a packet of a peer that gives no datagram yet: a bundle, a fragment, or neither; what there is no memory for is counted
 abbrev pub IsOpened : ℕ → List ℕ → Received → Received → Type 0
-IsOpened from packet old new =
-    ((entries : List ℕ) × (packet ≡ 17 ∷ 0 ∷ entries) × (Begins from entries new.unpacking ⊎ Rose old.unkept new.unkept)) ⊎ (IsNoBundle packet × (new.unpacking ≡ old.unpacking))
+IsOpened from packet old new = OpensBundle from packet old new ⊎ (OpensFragment from packet old new ⊎ (IsNoBundle packet × IsNoFragment packet × (new ≡ old)))
 
 -- it is taken from those with these addresses alone
 abbrev pub IsOpenedOf : List ℕ → ℕ → List ℕ → Received → Received → Type 0

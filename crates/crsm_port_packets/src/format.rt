@@ -4,10 +4,10 @@
 //! - kind 1: a fragment of a datagram: the datagram's number, a u64; the index of the fragment and their count, a u8
 //!   each; and the fragment's bytes.
 
-ghost use Rattle.std.specs.Prelude.{◌≡◌, ◌+◌, ◌++◌, ◌∷◌, [], IfSome, None, Some, drop, length};
+ghost use Rattle.std.specs.Prelude.{◌≡◌, ◌<◌, ◌+◌, ◌++◌, ◌∷◌, ℕ, List, [], IfSome, None, Some, drop, length};
 ghost use Rattle.crsm_base.specs.Reading.{u64_at};
 ghost use Rattle.crsm_base.specs.Spelling.{u64_bytes};
-ghost use Rattle.crsm_port_packets.specs.Format.{IsFragment, IsNoBundle, IsOfKind, entry_at, fields_of, is_packed};
+ghost use Rattle.crsm_port_packets.specs.Format.{IsFragment, IsNoBundle, IsNoFragment, IsOfKind, IsWithinCount, entry_at, fields_of, is_packed};
 
 use crsm_text_fields::take_u64;
 
@@ -69,7 +69,8 @@ pub(crate) fn is_packed(packet: &[u8]) -> bool
 
 /// Parses the first bytes of a packet that is no plain datagram.
 pub(crate) fn kind_of(packet: &[u8]) -> PacketKind<'_>
-    ensures { IsOfKind packet.now result }
+    ensures kind { IsOfKind packet.now result }
+    ensures within { IsWithinCount result }
 {
     match bundle_in(packet) {
         Some(entries) => PacketKind::Bundle(entries),
@@ -93,7 +94,9 @@ fn bundle_in(packet: &[u8]) -> Option<&[u8]>
 
 /// Returns the fragment that the packet is, if it is one.
 fn fragment_in(packet: &[u8]) -> Option<Fragment<'_>>
-    ensures { IfSome result (λ f. IsFragment packet.now (fields_of f)) }
+    ensures fragment { IfSome result (λ f. IsFragment packet.now (fields_of f)) }
+    ensures none { result ≡ None → IsNoFragment packet.now }
+    ensures within { IfSome result (λ f. f.index < f.count) }
 {
     match packet {
         [PACKET_BYTE, FRAGMENT, rest @ ..] => fragment_of(rest),
@@ -103,7 +106,9 @@ fn fragment_in(packet: &[u8]) -> Option<Fragment<'_>>
 
 /// Parses a fragment after its kind. `None` if a field is missing, or if its index is not below its count.
 fn fragment_of(bytes: &[u8]) -> Option<Fragment<'_>>
-    ensures { IfSome result (λ f. u64_at bytes.now ≡ Some (f.number, f.index ∷ f.count ∷ f.bytes.now)) }
+    ensures fields { IfSome result (λ f. u64_at bytes.now ≡ Some (f.number, f.index ∷ f.count ∷ f.bytes.now)) }
+    ensures within { IfSome result (λ f. f.index < f.count) }
+    ensures none { result ≡ None → (number index count : ℕ) (rest : List ℕ) → u64_at bytes.now ≡ Some (number, index ∷ count ∷ rest) → index < count → ⊥ }
 {
     match take_u64(bytes) {
         Some((number, [index, count, bytes @ ..])) if index < count => Some(Fragment {

@@ -1,9 +1,9 @@
 //! The fragments that have arrived lately.
 
-ghost use Rattle.std.specs.Prelude.{◌≡◌, [], true, Ok, IfSome, IsTrue};
+ghost use Rattle.std.specs.Prelude.{◌≡◌, ◌⊎◌, ◌<◌, ◌≤◌, ℕ, List, [], false, true, None, Ok, IfSome, IsTrue, OnOk};
 ghost use Rattle.crsm_port_packets.specs.Carrying.{put_together};
 ghost use Rattle.crsm_port_packets.specs.Format.{fields_of};
-ghost use Rattle.crsm_port_packets.specs.Kept.{Forgets, GainsOnly, arrived, kept_in};
+ghost use Rattle.crsm_port_packets.specs.Kept.{Forgets, GainsOnly, IsMissing, KeepsFragment, StaysBut, arrived, crowd, fragment_of, kept_in};
 
 use crate::format::{Fragment, MOST_FRAGMENTS};
 use crsm_base::NoMemory;
@@ -25,7 +25,8 @@ pub(crate) struct Piece {
 impl Piece {
     /// Returns whether this is the fragment at an index of the datagram of another, from the same address.
     fn is_at(&self, index: u8, from: u64, fragment: &Fragment<'_>) -> bool
-        ensures { IsTrue result → arrived self.now ≡ record { from = from; fragment = record (fields_of fragment.now) { index = index; bytes = self.now.bytes.items } } }
+        ensures no { result ≡ false → (bytes : List ℕ) → arrived self.now ≡ record { from = from; fragment = fragment_of (fields_of fragment.now) index bytes } → ⊥ }
+        ensures yes { IsTrue result → arrived self.now ≡ record { from = from; fragment = record (fields_of fragment.now) { index = index; bytes = self.now.bytes.items } } }
     {
         self.index == index
             && self.number == fragment.number
@@ -61,8 +62,11 @@ impl Fragments {
         fragment: &Fragment<'_>,
         whole: &mut Vec<u8>,
     ) -> Result<bool, NoMemory>
-        requires { whole.old.items ≡ [] }
+        requires whole { whole.old.items ≡ [] }
+        requires within { fragment.now.index < fragment.now.count }
         ensures kept { GainsOnly (record { from = from; fragment = fields_of fragment.now }) self.old.pieces.items self.new.pieces.items }
+        ensures waits { result ≡ Ok false → (7 < fragment.now.count) ⊎ KeepsFragment from (fields_of fragment.now) self.old.pieces.items self.new.pieces.items }
+        ensures few { (address : ℕ) → crowd address self.old.pieces.items ≤ 28 → crowd address self.new.pieces.items ≤ 28 }
         ensures whole { result ≡ Ok true → put_together (kept_in self.new.pieces.items) from whole.new.items }
     {
         if usize::from(fragment.count) > MOST_FRAGMENTS {
@@ -81,7 +85,10 @@ impl Fragments {
 
     /// Keeps a fragment. `NoMemory` if memory runs out.
     fn keep(&mut self, piece: Piece) -> Result<(), NoMemory>
-        ensures { GainsOnly (arrived piece) self.old.pieces.items self.new.pieces.items }
+        ensures only { GainsOnly (arrived piece) self.old.pieces.items self.new.pieces.items }
+        ensures kept { OnOk result (kept_in self.new.pieces.items piece.from (arrived piece).fragment) }
+        ensures stays { StaysBut piece.from self.old.pieces.items self.new.pieces.items }
+        ensures few { (address : ℕ) → crowd address self.old.pieces.items ≤ 28 → crowd address self.new.pieces.items ≤ 28 }
     {
         self.make_room(piece.from);
         self.pieces.push(piece)?;
@@ -90,27 +97,33 @@ impl Fragments {
 
     /// Forgets the oldest fragment from a sender, if no more may be kept from it.
     fn make_room(&mut self, from: u64)
-        ensures { Forgets self.old.pieces.items self.new.pieces.items }
+        ensures only { Forgets self.old.pieces.items self.new.pieces.items }
+        ensures stays { StaysBut from self.old.pieces.items self.new.pieces.items }
+        ensures few { (address : ℕ) → crowd address self.old.pieces.items ≤ 28 → crowd address self.new.pieces.items ≤ 28 }
+        ensures room { crowd from self.old.pieces.items ≤ 28 → crowd from self.new.pieces.items < 28 }
     {
-        match self.oldest_of_many(from) {
-            Some(oldest) if oldest < self.pieces.len() => {
-                self.pieces.remove(oldest);
+        if self.crowd(from) < MOST_KEPT {
+            return;
+        }
+        for index in 0..self.pieces.len() {
+            if self.pieces[index].from == from {
+                self.pieces.remove(index);
+                return;
             }
-            _ => {}
         }
     }
 
-    /// Returns the index of the oldest fragment from a sender, if no more may be kept from it.
-    fn oldest_of_many(&self, from: u64) -> Option<usize> {
-        let mut oldest = None;
+    /// Returns the number of fragments that are kept from a sender.
+    fn crowd(&self, from: u64) -> usize
+        ensures { result ≡ crowd from self.now.pieces.items }
+    {
         let mut count = 0_usize;
-        for (index, piece) in self.pieces.iter().enumerate() {
+        for piece in &self.pieces {
             if piece.from == from {
-                oldest = oldest.or(Some(index));
-                count = count.saturating_add(1);
+                count += 1;
             }
         }
-        oldest.filter(|_| count >= MOST_KEPT)
+        count
     }
 
     /// Writes the bytes of all fragments of a datagram in order, and returns whether all are here, and at least one.
@@ -121,8 +134,10 @@ impl Fragments {
         fragment: &Fragment<'_>,
         whole: &mut Vec<u8>,
     ) -> Result<bool, NoMemory>
-        requires { whole.old.items ≡ [] }
-        ensures { result ≡ Ok true → put_together (kept_in self.now.pieces.items) from whole.new.items }
+        requires whole { whole.old.items ≡ [] }
+        requires within { fragment.now.index < fragment.now.count }
+        ensures together { result ≡ Ok true → put_together (kept_in self.now.pieces.items) from whole.new.items }
+        ensures missing { result ≡ Ok false → IsMissing from (fields_of fragment.now) self.now.pieces.items }
     {
         for index in 0..fragment.count {
             match self.piece(index, from, fragment) {
@@ -130,12 +145,13 @@ impl Fragments {
                 None => return Ok(false),
             }
         }
-        Ok(fragment.count > 0)
+        Ok(true)
     }
 
     /// Returns the bytes of the fragment at an index of a datagram, or `None` if it has not arrived.
     fn piece(&self, index: u8, from: u64, fragment: &Fragment<'_>) -> Option<&[u8]>
-        ensures { IfSome result (λ bytes. kept_in self.now.pieces.items from (record (fields_of fragment.now) { index = index; bytes = bytes.now })) }
+        ensures some { IfSome result (λ bytes. kept_in self.now.pieces.items from (record (fields_of fragment.now) { index = index; bytes = bytes.now })) }
+        ensures none { result ≡ None → (bytes : List ℕ) → kept_in self.now.pieces.items from (fragment_of (fields_of fragment.now) index bytes) → ⊥ }
     {
         for piece in &self.pieces {
             if piece.is_at(index, from, fragment) {

@@ -1,8 +1,8 @@
-use Rattle.std.proofs.Common.{◌≡◌, ◌∙◌, ◌<◌, ◌++◌, ℕ, List, [], ◌∷◌, length, true, ap, subst, sym, arith, length-append}
-use Rattle.std.specs.Prelude.{nat_lt, slice_index_or}
+use Rattle.std.proofs.Common.{◌≡◌, ◌∙◌, ◌<◌, ◌++◌, ℕ, List, [], ◌∷◌, length, ap, refl, subst, sym, arith, length-append}
+use Rattle.std.specs.Prelude.{slice_index_or}
 use Rattle.crsm_port_packets.specs.Format.{fields_of}
 use Rattle.crsm_port_packets.specs.Kept.{kept_in}
-use Rattle.crsm_port_packets.proofs.Keepings.{concat_more, each_more, is_some}
+use Rattle.crsm_port_packets.proofs.Keepings.{concat_more, each_more}
 use Rattle.crsm_port_packets.proofs.fragments.Fragments.put_together.Goals as goal
 
 pub loop-index-preserved : goal.loop-index-preserved
@@ -11,20 +11,22 @@ loop-index-preserved c =
     let piece = c.in-Some.bytes.now in
     let kept = c.args.self.now.pieces.items in
     let P : ℕ → List ℕ → Type 0 = λ i bytes. kept_in kept c.args.from (record (fields_of c.args.fragment.now) { index = i; bytes = bytes }) in
-    let here : P (length before.0) piece = subst (λ (i : ℕ). P i piece) (sym before.1) c.in-Some.ensures in (
+    let here : P (length before.0) piece = subst (λ (i : ℕ). P i piece) (sym before.1) c.in-Some.ensures.some in (
       before.0 ++ piece ∷ [],
       omega (arith, before.1, length-append before.0 (piece ∷ [])),
       c.in_ok-extend_from_slice-in-Some.ensures.items ∙ ap (λ (x : List ℕ). x ++ piece) before.2 ∙ sym (concat_more before.0 piece),
       each_more P before.0 piece before.3 here,
     )
 
-pub returns : goal.returns
-returns c = λ ok.
+pub returns-in-None-clause-missing : goal.returns-in-None-clause-missing
+returns-in-None-clause-missing c = λ _. (c.loop-index.index, omega (arith, c.loop-index-test.true), c.in-None.ensures.none refl)
+
+pub returns-clause-together : goal.returns-clause-together
+returns-clause-together c = λ _.
     let before = c.loop-index.invariant in
     let kept = c.args.self.now.pieces.items in
     let count : c.args.fragment.now.count ≡ length before.0 = omega (arith, before.1) in
-    let test : nat_lt 0 c.args.fragment.now.count ≡ true = cc in
-    let some : 0 < c.args.fragment.now.count = is_some c.args.fragment.now.count test in (
+    let some : 0 < c.args.fragment.now.count = omega (arith, c.requires.within) in (
       c.args.fragment.now.number,
       before.0,
       omega (arith, some, count),
