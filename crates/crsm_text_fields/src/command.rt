@@ -3,14 +3,15 @@
 ghost use Rattle.std.specs.Prelude.{◌≡◌, ◌++◌, IfOk, OnOk};
 ghost use Rattle.std.specs.Option.{option_map};
 ghost use Rattle.crsm_base.specs.Spelling.{FitsStamp, FitsKey, op_bytes, FitsOp, command_bytes, FitsCommand, entry_bytes, FitsEntry};
-ghost use Rattle.crsm_base.specs.Reading.{get_at, put_at, delete_at, cas_at, op_at, command_at, entry_at};
+ghost use Rattle.crsm_base.specs.Parser.{both};
+ghost use Rattle.crsm_base.specs.Reading.{get_at, put_at, delete_at, cas_at, op_at, option_val_at, command_at, entry_at};
 ghost use Rattle.crsm_text_fields.specs.Heads.{command_head, entry_head};
 
 use crate::cells::{pair_and_bytes, stamp_and_pair};
 use crate::number::{take_u8, take_u64};
 use crate::stamp::take_stamp;
 use crate::value::{put_option_val, put_tagged_key, put_val, take_key, take_option_val, take_val};
-use crsm_base::{Bytes, Command, Entry, Key, NoMemory, Op};
+use crsm_base::{Bytes, Command, Entry, Key, NoMemory, Op, Val};
 use std::alloc::Global;
 
 /// Appends the encoding of an operation. `NoMemory` if memory runs out; a prefix may then have been appended.
@@ -125,7 +126,12 @@ fn take_put(alloc: Global, bytes: &[u8]) -> Result<Option<(Op, &[u8])>, NoMemory
     let Some((key, rest)) = take_key(alloc, bytes)? else {
         return Ok(None);
     };
-    let Some((val, rest)) = take_val(alloc, rest)? else {
+    let Ok(taken) = take_val(alloc, rest) else {
+        drop(key);
+        return Err(NoMemory);
+    };
+    let Some((val, rest)) = taken else {
+        drop(key);
         return Ok(None);
     };
     Ok(Some((Op::Put(key, val), rest)))
@@ -141,6 +147,27 @@ fn take_delete(alloc: Global, bytes: &[u8]) -> Result<Option<(Op, &[u8])>, NoMem
     Ok(Some((Op::Delete(key), rest)))
 }
 
+// Parses the two values of a compare-and-set.
+fn take_two(
+    alloc: Global,
+    bytes: &[u8],
+) -> Result<Option<((Option<Val>, Option<Val>), &[u8])>, NoMemory>
+    ensures { IfOk result (λ r. option_map (λ x. (x.0, x.1.now)) r ≡ both option_val_at option_val_at bytes.now) }
+{
+    let Some((expected, rest)) = take_option_val(alloc, bytes)? else {
+        return Ok(None);
+    };
+    let Ok(taken) = take_option_val(alloc, rest) else {
+        drop(expected);
+        return Err(NoMemory);
+    };
+    let Some((new, rest)) = taken else {
+        drop(expected);
+        return Ok(None);
+    };
+    Ok(Some(((expected, new), rest)))
+}
+
 #[tactic(auto, unfolding(crsm_base::specs::Reading::cas_at))]
 fn take_cas(alloc: Global, bytes: &[u8]) -> Result<Option<(Op, &[u8])>, NoMemory>
     ensures { IfOk result (λ r. option_map (λ x. (x.0, x.1.now)) r ≡ cas_at bytes.now) }
@@ -148,10 +175,12 @@ fn take_cas(alloc: Global, bytes: &[u8]) -> Result<Option<(Op, &[u8])>, NoMemory
     let Some((key, rest)) = take_key(alloc, bytes)? else {
         return Ok(None);
     };
-    let Some((expected, rest)) = take_option_val(alloc, rest)? else {
-        return Ok(None);
+    let Ok(taken) = take_two(alloc, rest) else {
+        drop(key);
+        return Err(NoMemory);
     };
-    let Some((new, rest)) = take_option_val(alloc, rest)? else {
+    let Some(((expected, new), rest)) = taken else {
+        drop(key);
         return Ok(None);
     };
     Ok(Some((Op::Cas(key, expected, new), rest)))

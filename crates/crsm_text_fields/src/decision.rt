@@ -106,7 +106,12 @@ fn take_spec_members(
     let Some((spec, rest)) = take_spec(alloc, bytes)? else {
         return Ok(None);
     };
-    let Some((members, rest)) = take_members(alloc, rest)? else {
+    let Ok(taken) = take_members(alloc, rest) else {
+        drop(spec);
+        return Err(NoMemory);
+    };
+    let Some((members, rest)) = taken else {
+        drop(spec);
         return Ok(None);
     };
     Ok(Some(((Some(spec), members), rest)))
@@ -119,15 +124,22 @@ fn take_bare_decision(alloc: Global, bytes: &[u8]) -> Result<Option<(Decision, &
     let Some((epoch, rest)) = take_u64(bytes) else {
         return Ok(None);
     };
-    let Some(((spec, members), rest)) = take_spec_members(alloc, rest)? else {
+    let Some((sets, rest)) = take_spec_members(alloc, rest)? else {
         return Ok(None);
     };
     let Some((base_len, rest)) = take_u64(rest) else {
+        drop(sets);
         return Ok(None);
     };
-    let Some((tail, rest)) = take_entries(alloc, rest)? else {
+    let Ok(taken) = take_entries(alloc, rest) else {
+        drop(sets);
+        return Err(NoMemory);
+    };
+    let Some((tail, rest)) = taken else {
+        drop(sets);
         return Ok(None);
     };
+    let (spec, members) = sets;
     let decision = Decision {
         epoch,
         spec,
@@ -148,6 +160,7 @@ pub fn take_decision(alloc: Global, bytes: &[u8]) -> Result<Option<(Decision, &[
         return Ok(None);
     };
     if !is_whole(&decision) {
+        drop(decision);
         return Ok(None);
     }
     Ok(Some((decision, rest)))

@@ -42,10 +42,18 @@ fn take_many_entries(
     entries.reserve((count as usize).min(bytes.len() / LEAST_ENTRY_BYTES))?;
     let mut rest = bytes;
     for _ in 0..count {
-        let Some((entry, after)) = take_entry(alloc, rest)? else {
+        let Ok(taken) = take_entry(alloc, rest) else {
+            drop(entries);
+            return Err(NoMemory);
+        };
+        let Some((entry, after)) = taken else {
+            drop(entries);
             return Ok(None);
         };
-        entries.push(entry)?;
+        let Ok(()) = entries.push(entry) else {
+            drop(entries);
+            return Err(NoMemory);
+        };
         rest = after;
     }
     Ok(Some((entries, rest)))
@@ -85,9 +93,11 @@ pub fn take_entries(alloc: Global, bytes: &[u8]) -> Result<Option<(Entries, &[u8
         return Ok(None);
     };
     if !rises(entries.as_slice()) {
+        drop(entries);
         return Ok(None);
     }
     if inner.len() > rest.len() + MAX_TAIL_BYTES as usize {
+        drop(entries);
         return Ok(None);
     }
     Ok(Some((entries, rest)))

@@ -1,8 +1,9 @@
 //! Encoding and parsing of log records.
 
-ghost use Rattle.std.specs.Prelude.{◌≡◌, ◌++◌, IfOk, OnOk};
+ghost use Rattle.std.specs.Prelude.{◌≡◌, ◌∷◌, ◌++◌, IfOk, OnOk};
 ghost use Rattle.std.specs.Option.{option_map};
 ghost use Rattle.crsm_base.specs.Records.{rec_bytes, FitsRec};
+ghost use Rattle.crsm_base.specs.Spelling.{ballot_bytes, FitsBallot, u64_bytes};
 ghost use Rattle.crsm_base.specs.RecordReading.{boot_at, prepare_rec_at, commit_at, adopt_at, suspend_rec_at, promise_at, accept_at, decide_rec_at, enter_at, rec_at};
 
 use crate::command::{put_entry, take_entry};
@@ -10,7 +11,7 @@ use crate::decision::{put_decision, take_decision};
 use crate::entries::{put_entries, take_entries};
 use crate::number::{put_u8, put_u64, take_replica, take_u8, take_u64};
 use crate::stamp::{put_ballot, put_stamp, take_ballot, take_stamp};
-use crsm_base::{Bytes, NoMemory, Rec};
+use crsm_base::{Ballot, Bytes, NoMemory, Rec};
 use std::alloc::Global;
 
 /// Appends the encoding of a record. `NoMemory` if memory runs out; a prefix may then have been appended.
@@ -20,11 +21,7 @@ pub fn put_rec(rec: &Rec, out: &mut Bytes) -> Result<(), NoMemory>
     ensures { OnOk result (out.new ≡ out.old ++ rec_bytes rec.now) }
 {
     match rec {
-        Rec::Boot { me, n } => {
-            put_u8(1, out)?;
-            put_u8(*me as u8, out)?;
-            put_u8(*n as u8, out)
-        }
+        Rec::Boot { me, n } => out.append(&[1, *me as u8, *n as u8]),
         Rec::Prepare { entry } => {
             put_u8(2, out)?;
             put_entry(entry, out)
@@ -34,38 +31,43 @@ pub fn put_rec(rec: &Rec, out: &mut Bytes) -> Result<(), NoMemory>
             put_stamp(*stamp, out)
         }
         Rec::Adopt { place, entries } => {
-            put_u8(4, out)?;
-            put_u64(*place, out)?;
+            put_tagged_u64(4, *place, out)?;
             put_entries(entries, out)
         }
-        Rec::Suspend { epoch } => {
-            put_u8(5, out)?;
-            put_u64(*epoch, out)
-        }
-        Rec::Promise { instance, ballot } => {
-            put_u8(6, out)?;
-            put_u64(*instance, out)?;
-            put_ballot(*ballot, out)
-        }
+        Rec::Suspend { epoch } => put_tagged_u64(5, *epoch, out),
+        Rec::Promise { instance, ballot } => put_ballot_for(6, *instance, *ballot, out),
         Rec::Accept {
             instance,
             ballot,
             decision,
         } => {
-            put_u8(7, out)?;
-            put_u64(*instance, out)?;
-            put_ballot(*ballot, out)?;
+            put_ballot_for(7, *instance, *ballot, out)?;
             put_decision(decision, out)
         }
         Rec::Decide { decision } => {
             put_u8(8, out)?;
             put_decision(decision, out)
         }
-        Rec::Enter { epoch } => {
-            put_u8(9, out)?;
-            put_u64(*epoch, out)
-        }
+        Rec::Enter { epoch } => put_tagged_u64(9, *epoch, out),
     }
+}
+
+/// Appends a tag byte and the encoding of a number. `NoMemory` if memory runs out; a prefix may then have been appended.
+fn put_tagged_u64(tag: u8, number: u64, out: &mut Bytes) -> Result<(), NoMemory>
+    ensures { OnOk result (out.new ≡ out.old ++ tag ∷ u64_bytes number) }
+{
+    put_u8(tag, out)?;
+    put_u64(number, out)
+}
+
+/// Appends a tag byte, the number of an instance and a ballot of it. `NoMemory` if memory runs out; a prefix may then
+/// have been appended.
+fn put_ballot_for(tag: u8, instance: u64, ballot: Ballot, out: &mut Bytes) -> Result<(), NoMemory>
+    requires { FitsBallot ballot }
+    ensures { OnOk result (out.new ≡ out.old ++ tag ∷ (u64_bytes instance ++ ballot_bytes ballot)) }
+{
+    put_tagged_u64(tag, instance, out)?;
+    put_ballot(ballot, out)
 }
 
 #[tactic(auto, unfolding(crsm_base::specs::RecordReading::boot_at))]

@@ -2,12 +2,12 @@
 
 ghost use Rattle.std.specs.Prelude.{◌≡◌, ◌≤◌, IfOk, false, length, map, string_bytes};
 ghost use Rattle.std.specs.List.{All};
-ghost use Rattle.clap.specs.Words.{app_of, new_app};
+ghost use Rattle.clap.specs.Words.{app_of, new_app, with_subcommand};
 ghost use Rattle.clap.specs.declared.builder.command.Command.TheViews.{out-Command};
 ghost use Rattle.crsm_text_words.specs.Split.{IsPlain, SplitsBy, SplitsExactly};
 ghost use Rattle.crsm_text_words.specs.Table.{product_app, row, taking_app, top_app};
 
-use crate::help::{self, Help, PRODUCT};
+use crate::help::{self, Help};
 use clap::{Arg, ArgMatches, Command, Error};
 use std::alloc::{AllocError, Global};
 
@@ -65,39 +65,66 @@ fn top<'a>(alloc: Global) -> Command<'a>
     ensures shape { app_of result ≡ top_app }
     ensures local { (out-Command result).has_globals ≡ false }
 {
-    Command::new(alloc, "crsm")
-        .about("A replicated key-value store")
-        .override_usage("crsm [cluster C] COMMAND ..")
-        .after_help(PRODUCT)
+    plain(alloc, "crsm", help::PRODUCT)
         .version("1")
         .no_binary_name(true)
         .disable_help_subcommand(true)
         .subcommand_required(true)
 }
 
+/// Adds a command with values, which is declared as `taking` does. The others are dropped here alone.
+fn with_taking<'a>(
+    alloc: Global,
+    app: Command<'a>,
+    name: &'a str,
+    help: Help,
+    labels: &'a [&'a str],
+    least: usize,
+    most: usize,
+) -> Result<Command<'a>, AllocError>
+    requires { least ≤ most }
+    ensures { IfOk result (λ c. app_of c ≡ with_subcommand (app_of app.entry) (taking_app (row name.entry.now (length labels.entry.now) least most)).top) }
+{
+    match taking(alloc, name, help, labels, least, most) {
+        Ok(command) => app.subcommand(command),
+        Err(error) => {
+            drop(app);
+            Err(error)
+        }
+    }
+}
+
 /// Declares all commands. A new command needs a row here and one in `specs/Table`.
 fn product<'a>(alloc: Global) -> Result<Command<'a>, AllocError>
     ensures { IfOk result (λ c. app_of c ≡ product_app) }
 {
-    top(alloc)
-        .subcommand(plain(alloc, "replay", help::REPLAY))?
-        .subcommand(taking(
-            alloc,
-            "replay-node",
-            help::REPLAY_NODE,
-            ME_N.as_slice(),
-            2,
-            2,
-        )?)?
-        .subcommand(taking(alloc, "node", help::NODE, NODE.as_slice(), 4, 4)?)?
-        .subcommand(taking(alloc, "client", help::CLIENT, CLIENT.as_slice(), 5, 8)?)?
-        .subcommand(taking(alloc, "operate", help::OPERATE, OPERATE.as_slice(), 2, 2)?)?
-        .subcommand(taking(alloc, "soak", help::SOAK, SOAK.as_slice(), 3, 3)?)?
-        .subcommand(taking(alloc, "audit", help::AUDIT, AUDIT.as_slice(), 1, 1)?)?
-        .subcommand(taking(alloc, "lock", help::LOCK, LOCK.as_slice(), 6, 6)?)?
-        .subcommand(taking(alloc, "delay", help::DELAY, DELAY.as_slice(), 0, 1)?)?
-        .subcommand(taking(alloc, "dump", help::DUMP, DUMP.as_slice(), 2, 3)?)?
-        .subcommand(plain(alloc, "replay-mp", help::REPLAY_MP))
+    let app = top(alloc).subcommand(plain(alloc, "replay", help::REPLAY))?;
+    let app = with_taking(
+        alloc,
+        app,
+        "replay-node",
+        help::REPLAY_NODE,
+        ME_N.as_slice(),
+        2,
+        2,
+    )?;
+    let app = with_taking(alloc, app, "node", help::NODE, NODE.as_slice(), 4, 4)?;
+    let app = with_taking(alloc, app, "client", help::CLIENT, CLIENT.as_slice(), 5, 8)?;
+    let app = with_taking(
+        alloc,
+        app,
+        "operate",
+        help::OPERATE,
+        OPERATE.as_slice(),
+        2,
+        2,
+    )?;
+    let app = with_taking(alloc, app, "soak", help::SOAK, SOAK.as_slice(), 3, 3)?;
+    let app = with_taking(alloc, app, "audit", help::AUDIT, AUDIT.as_slice(), 1, 1)?;
+    let app = with_taking(alloc, app, "lock", help::LOCK, LOCK.as_slice(), 6, 6)?;
+    let app = with_taking(alloc, app, "delay", help::DELAY, DELAY.as_slice(), 0, 1)?;
+    let app = with_taking(alloc, app, "dump", help::DUMP, DUMP.as_slice(), 2, 3)?;
+    app.subcommand(plain(alloc, "replay-mp", help::REPLAY_MP))
 }
 
 /// Splits the words into a command's name and its values, by `clap`; returns its error if it finds a fault.

@@ -12,13 +12,17 @@ pub(crate) struct Help {
 }
 
 /// What the program's own help says of all commands.
-pub(crate) const PRODUCT: &str = "A first node, and a command:
+pub(crate) const PRODUCT: Help = Help {
+    about: "A replicated key-value store",
+    usage: "crsm [cluster C] COMMAND ..",
+    details: "A first node, and a command:
   crsm node 0 1 1000000000000 127.0.0.1:7000 > /dev/null &
   crsm client 127.0.0.1:7000 5000 7 1 put 61 62
 
 'crsm COMMAND --help' says what each word of a command means. Before node, client and operate may stand
 'cluster C', the number of a cluster, at least 1: nodes and clients of other numbers are not heard.
-The exit status is 0, or 2 for words that are none, or says with a line on standard error what failed.";
+The exit status is 0, or 2 for words that are none, or says with a line on standard error what failed.",
+};
 
 pub(crate) const NODE: Help = Help {
     about: "Runs a node of the store",

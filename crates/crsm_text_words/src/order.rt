@@ -108,7 +108,7 @@ pub enum Task {
 }
 
 /// A task and the number of its cluster, which is 0 if the words name none.
-#[derive(Debug, Drop)]
+#[derive(Drop)]
 pub struct Order {
     pub cluster: u64,
     pub task: Task,

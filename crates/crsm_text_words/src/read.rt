@@ -111,7 +111,11 @@ fn task_of(alloc: Global, words: &[String]) -> Result<Task, WordsError>
 {
     match split(alloc, words) {
         Ok(matches) => matched_task(alloc, &matches),
-        Err(error) => answer(alloc, &error),
+        Err(error) => {
+            let task = answer(alloc, &error);
+            drop(error);
+            task
+        }
     }
 }
 
@@ -125,9 +129,6 @@ fn names_cluster(task: &Task) -> bool
     )
 }
 
-/// Drops the task in its own function, which keeps its variants out of the proofs of callers.
-fn discard(_task: Task) {}
-
 /// Returns the order of a task in a cluster. `Usage` if the task may not name one.
 fn order_of(cluster: u64, task: Task) -> Result<Order, WordsError>
     ensures ok { IfOk result (λ order. NamesCluster task × (order ≡ record { cluster = cluster; task = task })) }
@@ -136,7 +137,7 @@ fn order_of(cluster: u64, task: Task) -> Result<Order, WordsError>
     if names_cluster(&task) {
         Ok(Order { cluster, task })
     } else {
-        discard(task);
+        drop(task);
         Err(WordsError::Usage)
     }
 }

@@ -20,8 +20,15 @@ For more information, try '--help'.
 /// Returns `clap`'s error text for the words, or `other` if it accepts them.
 fn text_of(alloc: Global, words: &[String], other: &str) -> Result<String, AllocError> {
     match split(alloc, words) {
-        Ok(_) => String::from_str(alloc, other),
-        Err(error) => format!(in alloc; "{error}"),
+        Ok(matches) => {
+            drop(matches);
+            String::from_str(alloc, other)
+        }
+        Err(error) => {
+            let text = format!(in alloc; "{error}");
+            drop(error);
+            text
+        }
     }
 }
 
