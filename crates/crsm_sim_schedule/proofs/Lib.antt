@@ -2,3 +2,4 @@ pub mod Lines
 pub mod Handled
 pub mod Exact
 pub mod Replayed
+pub mod ReadLines

@@ -1,8 +1,8 @@
 //! The lines of a schedule: the first begins a simulation, and each later one is an event of it.
 
 ghost use Rattle.std.specs.Prelude.{◌≡◌, ◌+◌, None, IfOk, IfErr, OnOk, Option};
-ghost use Rattle.crsm_schedule.specs.Grammar.{FitsEvent, event_text};
-ghost use Rattle.crsm_sim_schedule.specs.Handled.{Advances, AdvancesTo, IsUnread, Stops};
+ghost use Rattle.crsm_schedule.specs.Grammar.{FitsEvent};
+ghost use Rattle.crsm_sim_schedule.specs.Handled.{Advances, AdvancesTo, Halts, IsAfter, Stops, WhereRead};
 ghost use Rattle.crsm_sim_schedule.specs.Schedules.{Schedule, line_count};
 ghost use Rattle.crsm_sim_schedule.specs.State.{IsGood, StandsAt, count_of};
 
@@ -13,20 +13,42 @@ use crsm_port_lines::{Handler, Stop};
 use crsm_schedule::{Event, LineError, read_event, read_first};
 use std::alloc::Global;
 
-/// Drops an event in its own function, which keeps its cases out of its callers' proofs.
-fn discard(_event: Event) {}
-
-/// Parses the event of a line. `Unreadable` if it has none.
-fn event_of(alloc: Global, line: &[u8]) -> Result<Event, Stop<Cause>>
-    ensures fits { IfOk result (λ event. FitsEvent event) }
-    ensures text { IfOk result (λ event. line.now ≡ event_text event) }
-    ensures err { IfErr result (λ stop. IsUnread line.now stop) }
+/// Executes the event that was read, and appends the text of its lines. `Unreadable` if a line had none.
+fn do_event<S: Simulation>(
+    run: &mut S,
+    at: u64,
+    read: &Result<Event, LineError>,
+    text: &mut Bytes,
+) -> Result<(), Stop<Cause>>
+    requires { IfOk read.now (λ event. FitsEvent event) }
+    ensures ok { WhereRead read.now (λ line. (s : Schedule) → IsAfter at s → S.rules.can_run s → S.stands run.old s
+        → OnOk result (Advances S.rules (S.stands run.new) (Some s) line text.old text.new)) }
+    ensures err { WhereRead read.now (λ line. (s : Schedule) → S.rules.can_run s → S.stands run.old s
+        → IfErr result (λ stop. Halts S.rules s line text.old text.new stop)) }
 {
-    match read_event(alloc, line) {
-        Ok(event) => Ok(event),
+    match read {
+        Ok(event) => run.advance(at, event, text),
         Err(LineError::Unreadable) => Err(Stop::Refused(Cause::Unreadable)),
         Err(LineError::NoMemory) => Err(Stop::NoMemory),
     }
+}
+
+/// Parses the event of a line and executes it where it was parsed, since an event is large. Appends the text of its
+/// lines. `Unreadable` if it has none.
+fn read_and_do<S: Simulation>(
+    alloc: Global,
+    simulation: &mut S,
+    at: u64,
+    line: &[u8],
+    text: &mut Bytes,
+) -> Result<(), Stop<Cause>>
+    ensures ok { (s : Schedule) → at ≡ line_count s + 1 → S.rules.can_run s → S.stands simulation.old s
+        → OnOk result (Advances S.rules (S.stands simulation.new) (Some s) line.now text.old text.new) }
+    ensures err { (s : Schedule) → S.rules.can_run s → S.stands simulation.old s
+        → IfErr result (λ stop. Halts S.rules s line.now text.old text.new stop) }
+{
+    let read = read_event(alloc, line);
+    do_event(simulation, at, &read, text)
 }
 
 /// Begins a simulation by the first line, and appends the text of its lines.
@@ -57,13 +79,7 @@ fn do_line<S: Simulation>(
     ensures err { (s : Schedule) → S.rules.can_run s → S.stands simulation.old s
         → IfErr result (λ stop. Stops S.rules (Some s) line.now text.old text.new stop) }
 {
-    let event = match event_of(alloc, line) {
-        Ok(event) => event,
-        Err(stop) => return Err(stop),
-    };
-    let stepped = simulation.advance(at, &event, text);
-    discard(event);
-    match stepped {
+    match read_and_do(alloc, simulation, at, line, text) {
         Ok(()) => Ok(()),
         Err(Stop::Refused(cause)) => Err(Stop::Refused(cause)),
         Err(Stop::NoMemory) => {
@@ -71,6 +87,25 @@ fn do_line<S: Simulation>(
             Err(Stop::NoMemory)
         }
     }
+}
+
+/// Handles the first line. A new simulation is large, and the stack of the later lines needs no room for it.
+#[inline(never)]
+fn take_first<S: Simulation>(
+    alloc: Global,
+    held: &mut Option<S>,
+    line: &[u8],
+    text: &mut Bytes,
+) -> Result<(), Stop<Cause>>
+    ensures ok { OnOk result (AdvancesTo S.rules S.stands held.new None line.now text.old text.new) }
+    ensures err { IfErr result (λ stop. Stops S.rules None line.now text.old text.new stop) }
+{
+    let begun = match begin_by(alloc, line, text) {
+        Ok(begun) => begun,
+        Err(stop) => return Err(stop),
+    };
+    *held = Some(begun);
+    Ok(())
 }
 
 /// Handles a whole line, which is the first if there is no simulation yet.
@@ -88,14 +123,7 @@ fn take_line<S: Simulation>(
 {
     match held {
         Some(simulation) => do_line(alloc, simulation, at, line, text),
-        None => {
-            let begun = match begin_by(alloc, line, text) {
-                Ok(begun) => begun,
-                Err(stop) => return Err(stop),
-            };
-            *held = Some(begun);
-            Ok(())
-        }
+        None => take_first(alloc, held, line, text),
     }
 }
 
