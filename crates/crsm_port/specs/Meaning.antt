@@ -98,6 +98,11 @@ pub record Sends {T : Type 0} (to : ℕ) (bytes : List ℕ) (old new : Meaning) 
   pub borrowed_as : new.borrowed_as ≡ old.borrowed_as
   pub plan : Spends 1 (length bytes) old.plan new.plan result
 
+-- a port is given these datagrams in turn
+abbrev pub SendsAll : List Packet → Meaning → Meaning → Type 0
+SendsAll [] old new = new ≡ old
+SendsAll (p ∷ ps) old new = (between : Meaning) × (result : Result (Unit {0}) Failed) × Sends p.address p.bytes old between result × SendsAll ps between new
+
 -- memory is reserved, and nothing else changes
 pub record Reserves {T : Type 0} (sends bytes : ℕ) (old new : Meaning) (result : Result T NoMemory) : Type 0 where
   pub same : new ≡ record old { plan = new.plan }

@@ -58,3 +58,14 @@ pub record HandsUp (gives gives_now sends sends_now : Datagrams) (buffer : List 
 pub record PassesOn (gives gives_now sends sends_now : Datagrams) (to : ℕ) (bytes : List ℕ) : Type 0 where
   pub no_more_given : NoMore gives gives_now
   pub one_more_sent : OneMore to bytes sends sends_now
+
+-- ---- the same of a port that gives these and may send those, by its state
+
+abbrev pub RestsBy : {S : Type 0} → (S → Datagrams) → (S → Datagrams) → S → S → Type 0
+RestsBy gives sends old new = Rests (gives old) (gives new) (sends old) (sends new)
+
+abbrev pub HandsUpBy : {S : Type 0} → (S → Datagrams) → (S → Datagrams) → S → S → List ℕ → Result Recv Failed → Type 0
+HandsUpBy gives sends old new buffer result = HandsUp (gives old) (gives new) (sends old) (sends new) buffer result
+
+abbrev pub PassesOnBy : {S : Type 0} → (S → Datagrams) → (S → Datagrams) → S → S → ℕ → List ℕ → Type 0
+PassesOnBy gives sends old new to bytes = PassesOn (gives old) (gives new) (sends old) (sends new) to bytes

@@ -2,7 +2,7 @@
 
 ghost use Rattle.std.specs.Prelude.{◌≡◌, ◌≢◌, ℕ, ◌+◌, ◌++◌, ◌*◌, ◌≤◌, length, take, IfOk, IfSome};
 ghost use Rattle.crsm_port.specs.Meaning.{IsShort, Receives, Sends};
-ghost use Rattle.crsm_port.specs.Passing.{HandsUp, PassesOn};
+ghost use Rattle.crsm_port.specs.Passing.{HandsUpBy, PassesOn, PassesOnBy};
 ghost use Rattle.crsm_port.specs.Cluster.{IsShortIn, clustered, given_to, sent_by, unwrapped, wrapped};
 ghost use Rattle.crsm_wire.specs.Marks.{mark_of};
 
@@ -62,7 +62,7 @@ fn recv_wrapped<P: Port>(
     requires cluster { cluster ≢ 0 }
     requires room { length wire.old ≡ 8201 }
     ensures receives { (too_long : ℕ) → Receives (clustered cluster too_long (P.meaning inner.old)) (clustered cluster too_long (P.meaning inner.new)) buf.old buf.new result }
-    ensures hands_up { HandsUp (given_to cluster (P.gives inner.old)) (given_to cluster (P.gives inner.new)) (sent_by cluster (P.may_send inner.old)) (sent_by cluster (P.may_send inner.new)) buf.new result }
+    ensures hands_up { HandsUpBy (λ p. given_to cluster (P.gives p)) (λ p. sent_by cluster (P.may_send p)) inner.old inner.new buf.new result }
 {
     match inner.recv(wire) {
         Err(Failed) => Err(Failed),
@@ -126,7 +126,7 @@ impl<P: Port> Port for ClusterPort<P> {
 
     fn send(&mut self, to: u64, bytes: &[u8]) -> Result<(), Failed>
         ensures sends { Sends to bytes.now (clustered self.old.cluster self.old.too_long (P.meaning self.old.inner)) (clustered self.new.cluster self.new.too_long (P.meaning self.new.inner)) result }
-        ensures passes_on { PassesOn (given_to self.old.cluster (P.gives self.old.inner)) (given_to self.new.cluster (P.gives self.new.inner)) (sent_by self.old.cluster (P.may_send self.old.inner)) (sent_by self.new.cluster (P.may_send self.new.inner)) to bytes.now }
+        ensures passes_on { PassesOnBy (λ p. given_to p.cluster (P.gives p.inner)) (λ p. sent_by p.cluster (P.may_send p.inner)) self.old self.new to bytes.now }
         ensures fits { IsShortIn self.old.cluster bytes.now → Sends to (wrapped self.old.cluster bytes.now) (P.meaning self.old.inner) (P.meaning self.new.inner) result }
         ensures too_long { (IsShortIn self.old.cluster bytes.now → ⊥) → P.meaning self.new.inner ≡ P.meaning self.old.inner }
         ensures counted { IsShortIn self.old.cluster bytes.now → self.new.too_long ≡ self.old.too_long }

@@ -3,14 +3,13 @@ use Rattle.std.proofs.Common.{◌≡◌, ◌∙◌, ◌++◌, ◌+◌, ◌-◌, 
 use Rattle.std.proofs.lemmas.List.Elements.{All-nil, All-push, Contains-append_left, Contains-push}
 use Rattle.std.specs.Prelude.{◌⊎◌, ◌↔◌, All, Contains, IsTrue, min, slice_get, slice_index_or}
 use Rattle.crsm_base.specs.declared.memory.Failed.{Failed}
-use Rattle.crsm_port.specs.Meaning.{Meaning, Packet, Sends}
+use Rattle.crsm_port.specs.Meaning.{Meaning, Packet, Sends, SendsAll}
 use Rattle.std.proofs.lemmas.Nat.{bit_set_by_shift, from_be_bytes-to_be_bytes_2}
 use Rattle.std.proofs.lemmas.Nat.Bits.{shr_and_one}
 use Rattle.std.specs.Int.{IsBitSet, bit_at, from_be_bytes, to_be_bytes, w16}
 use Rattle.crsm_port_flow.proofs.Sendings.{sends_one_more}
 use Rattle.crsm_port_flow.specs.Hears.{AreKnownBy, IsKnownBy, SaysHeard, SaysHears, TellsAll}
 use Rattle.crsm_port_flow.specs.Taken.{IsSaid}
-use Rattle.crsm_port_flow.specs.Waits.{SendsAll}
 use Rattle.crsm_port_flow.specs.declared.hearing.Peer.{Peer}
 
 -- so many of the peers were told

@@ -2,11 +2,10 @@
 use Rattle.std.proofs.Common.{◌≡◌, ◌∙◌, ◌++◌, ◌+◌, ◌<◌, ◌≤◌, ℕ, zero, suc, Bool, true, false, List, [], ◌∷◌, Result, length, map, min, set, take, refl, sym, ap, subst, inl, inr, arith}
 use Rattle.std.specs.Prelude.{if◌then◌else◌, slice_index_or}
 use Rattle.crsm_base.specs.declared.memory.Failed.{Failed}
-use Rattle.crsm_port.specs.Meaning.{Meaning, Packet, Sends}
+use Rattle.crsm_port.specs.Meaning.{Meaning, Packet, Sends, SendsAll}
 use Rattle.crsm_port.specs.Passing.{Datagrams, NoMore, OneMore, either}
 use Rattle.crsm_port_flow.proofs.Keepings.{contains_map, push_cases, set_cases}
 use Rattle.crsm_port_flow.specs.Acks.{AtPlaceOf, SaysHearing, StayHeld, held_in, packet_of, sent_with}
-use Rattle.crsm_port_flow.specs.Waits.{SendsAll}
 use Rattle.crsm_port_flow.specs.declared.acks.Ack.{Ack}
 
 module _ (P Q : Datagrams) (old new : List Ack) (to : ℕ) (bytes : List ℕ) where

@@ -6,11 +6,13 @@ pub mod Hears
 pub mod Kept
 pub mod Losses
 pub mod Lost
+pub mod New
 pub mod Order
 pub mod Reads
 pub mod Rooms
 pub mod Same
 pub mod Taken
+pub mod Traffic
 pub mod Turns
 pub mod Waits
 pub mod Went

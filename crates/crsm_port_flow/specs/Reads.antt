@@ -2,7 +2,7 @@
 use Rattle.std.specs.Prelude.{◌≡◌, ◌⊎◌, ◌≤◌, ℕ, Bool, List, [], ◌∷◌, length, take, true, false, Option, Some, None, Result, Ok, Err}
 use Rattle.crsm_base.specs.declared.memory.Failed.{Failed}
 use Rattle.crsm_base.specs.declared.memory.NoMemory.{NoMemory}
-use Rattle.crsm_port.specs.Meaning.{Meaning, Packet, Receives, Reserves}
+use Rattle.crsm_port.specs.Meaning.{Meaning, Packet, Receives, Reserves, SendsAll}
 use Rattle.crsm_port.specs.declared.port.Recv.{Recv}
 use Rattle.crsm_port.specs.declared.port.Recv.TheVariants.{Nothing, Datagram}
 use Rattle.crsm_port_flow.specs.Hears.{AreKnownBy}
@@ -10,7 +10,6 @@ use Rattle.crsm_port_flow.specs.Lost.{TakesIn}
 use Rattle.crsm_port_flow.specs.Order.{NextGoes}
 use Rattle.crsm_port_flow.specs.Same.{SameKept}
 use Rattle.crsm_port_flow.specs.Turns.{AreInTime, DropsOver}
-use Rattle.crsm_port_flow.specs.Waits.{SendsAll}
 use Rattle.crsm_port_flow.specs.Windows.{WindowTakes}
 use Rattle.crsm_port_flow.specs.declared.datagram.Losses.{Losses}
 use Rattle.crsm_port_flow.specs.declared.flow.FlowPort.{FlowPort}

@@ -1,7 +1,5 @@
 -- What may wait before it is sent, and that it goes then.
-use Rattle.std.specs.Prelude.{◌≡◌, ◌⊎◌, ℕ, List, [], ◌∷◌, Contains, Result}
-use Rattle.crsm_base.specs.declared.memory.Failed.{Failed}
-use Rattle.crsm_port.specs.Meaning.{Meaning, Packet, Sends}
+use Rattle.std.specs.Prelude.{◌≡◌, ◌⊎◌, ℕ, List, Contains}
 use Rattle.crsm_port_flow.specs.Acks.{StayHeld, held_in}
 use Rattle.crsm_port_flow.specs.Heads.{HasHead}
 use Rattle.crsm_port_flow.specs.Went.{IsFrame, IsPartIn, PartWentLately, WentLately, checksum}
@@ -45,8 +43,3 @@ NotesNone old new = (new.repeats.last.items ≡ old.repeats.last.items) × (new.
 -- an acknowledgement that was held is held still, unless a later one takes its place
 abbrev pub HoldsStill : ℕ → List ℕ → Outbound → Outbound → Type 0
 HoldsStill to bytes old new = (new.acks ≡ old.acks) ⊎ (IsAck bytes × StayHeld to bytes old.acks.acks.items new.acks.acks.items)
-
--- a port is given these datagrams in turn
-abbrev pub SendsAll : List Packet → Meaning → Meaning → Type 0
-SendsAll [] old new = new ≡ old
-SendsAll (p ∷ ps) old new = (between : Meaning) × (result : Result (Unit {0}) Failed) × Sends p.address p.bytes old between result × SendsAll ps between new

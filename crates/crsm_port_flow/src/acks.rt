@@ -1,9 +1,9 @@
 //! Acknowledgements that are held back until the next flush.
 
 ghost use Rattle.std.specs.Prelude.{◌≡◌, ◌≤◌, [], take, length, map, true, false, IfOk};
+ghost use Rattle.crsm_port.specs.Meaning.{SendsAll};
 ghost use Rattle.crsm_port.specs.Passing.{NoMore, OneMore};
 ghost use Rattle.crsm_port_flow.specs.Acks.{AtPlaceOf, StayHeld, held_in, packet_of, sent_with};
-ghost use Rattle.crsm_port_flow.specs.Waits.{SendsAll};
 
 use crsm_base::NoMemory;
 use crsm_port::Port;

@@ -1,22 +1,23 @@
 //! `FlowPort`: retransmission and flow control around a port.
 
-ghost use Rattle.std.specs.Prelude.{◌≡◌, ◌≢◌, ◌≤◌, ◌⊎◌, ◌++◌, List, [], take, map, true, false, All, None, Option, IfOk, IfSome, IsErrOf, IsOk, IsOkAnd, OnErr, OnOk, length};
+ghost use Rattle.std.specs.Prelude.{◌≡◌, ◌≢◌, ◌≤◌, ◌⊎◌, ◌++◌, List, [], take, true, false, All, None, Option, IfOk, IfSome, IsErrOf, IsOk, IsOkAnd, OnErr, OnOk, length};
 ghost use Rattle.crsm_clock.specs.Readings.{Gives, Readings};
 ghost use Rattle.crsm_port_faults.specs.Counts.{Rose};
-ghost use Rattle.crsm_port.specs.Meaning.{IsWithin, Packet, Receives, Reserves, Sends};
-ghost use Rattle.crsm_port.specs.Passing.{Cut, HandsUp, IsOf, NoMore, PassesOn, Rests};
+ghost use Rattle.crsm_port.specs.Meaning.{IsWithin, Packet, Receives, Reserves, Sends, SendsAll};
+ghost use Rattle.crsm_port.specs.Passing.{Cut, HandsUpBy, IsOf, NoMore, PassesOnBy, RestsBy};
 ghost use Rattle.crsm_port.specs.Unknown.{unknown};
-ghost use Rattle.crsm_port_flow.specs.Acks.{packet_of, sent_with};
 ghost use Rattle.crsm_port_flow.specs.Followed.{GoesBy};
-ghost use Rattle.crsm_port_flow.specs.Hears.{AreKnownBy, Tells, unheard};
+ghost use Rattle.crsm_port_flow.specs.Hears.{AreKnownBy, Tells};
 ghost use Rattle.crsm_port_flow.specs.Kept.{KeepsOnly, given_by, kept_in};
 ghost use Rattle.crsm_port_flow.specs.Lost.{MayDrop, TakesIn};
+ghost use Rattle.crsm_port_flow.specs.New.{IsNew};
 ghost use Rattle.crsm_port_flow.specs.Order.{NextGoes, NothingGoes};
 ghost use Rattle.crsm_port_flow.specs.Reads.{IsAnswer, ReadsAhead, ReadsAll, ReadsOne, SendsAndTakes, TakesAndEnds, TakesOrEnds, state_of};
 ghost use Rattle.crsm_port_flow.specs.Same.{SameClients, SameKept, SamePeers, StaysWhenSent};
 ghost use Rattle.crsm_port_flow.specs.Taken.{Comes, IsStranger};
+ghost use Rattle.crsm_port_flow.specs.Traffic.{IsHeldBack, acks_of, given_over, sent_over};
 ghost use Rattle.crsm_port_flow.specs.Turns.{IsAnswered, IsReplyTo};
-ghost use Rattle.crsm_port_flow.specs.Waits.{HoldsStill, MayWait, Notes, NotesNone, SendsAll};
+ghost use Rattle.crsm_port_flow.specs.Waits.{HoldsStill, Notes, NotesNone};
 ghost use Rattle.crsm_port_flow.specs.Windows.{WindowSends, WindowTakes, new_window};
 ghost use Rattle.crsm_port_flow.specs.declared.commands.Command.{Command};
 
@@ -102,9 +103,10 @@ impl<P: Drop, C: Drop> FlowPort<P, C> {
         me: usize,
         peers: &[u64],
     ) -> Result<FlowPort<P, C>, NoMemory>
-        ensures made { IfOk result (λ p. (p.port ≡ inner) × (length p.room.items ≡ 8_201) × (p.has_failed ≡ false) × NoMore (λ _ _. ⊥) (kept_in p.inbound) × (p.outbound.acks.acks.items ≡ [])) }
-        ensures clock { IfOk result (λ p. p.clock ≡ clock) }
-        ensures peers { IfOk result (λ p. (p.hearing.me ≡ me) × (p.hearing.peers.items ≡ map unheard peers.now) × (p.hearing.said_at ≡ None)) }
+        ensures made { IfOk result (IsNew inner clock me peers.now) }
+        ensures room { IfOk result (λ p. (length p.room.items ≡ 8_201) × (p.has_failed ≡ false)) }
+        ensures nothing { IfOk result (λ p. NoMore (λ _ _. ⊥) (kept_in p.inbound) × (p.outbound.acks.acks.items ≡ [])) }
+        ensures unsaid { IfOk result (λ p. p.hearing.said_at ≡ None) }
         ensures frames { IfOk result (λ p. All (λ f. f.at ≡ 0) p.outbound.repeats.last.items) }
         ensures parts { IfOk result (λ p. All (λ q. q.at ≡ 0) p.outbound.parts.last.items) }
         ensures window { IfOk result (λ p. p.outbound.window ≡ new_window 0) }
@@ -403,18 +405,18 @@ impl<P: Port, C: Clock> FlowPort<P, C> {
 impl<P: Port, C: Clock> Port for FlowPort<P, C> {
     ghost meaning = { λ p. unknown p.faults p.losses p.empties };
 
-    ghost gives = { λ p. given_by (P.gives p.port) p.inbound };
+    ghost gives = { given_over P.gives };
 
-    ghost may_send = { λ p. sent_with (P.may_send p.port) p.outbound.acks.acks.items };
+    ghost may_send = { sent_over P.may_send };
 
     fn recv(&mut self, buf: &mut [u8]) -> Result<Recv, Failed>
         ensures receives { Receives (unknown self.old.faults self.old.losses self.old.empties) (unknown self.new.faults self.new.losses self.new.empties) buf.old buf.new result }
-        ensures hands_up { HandsUp (given_by (P.gives self.old.port) self.old.inbound) (given_by (P.gives self.new.port) self.new.inbound) (sent_with (P.may_send self.old.port) self.old.outbound.acks.acks.items) (sent_with (P.may_send self.new.port) self.new.outbound.acks.acks.items) buf.new result }
+        ensures hands_up { HandsUpBy (given_over P.gives) (sent_over P.may_send) self.old self.new buf.new result }
         ensures goes { self.old.inbound.peers.ready.items ≢ [] → IsOkAnd result (NextGoes self.old.inbound self.new.inbound buf.old buf.new) }
         ensures nothing { IfOk result (λ got. got ≡ Recv.Nothing → NothingGoes self.new.now self.new.inbound self.new.outbound.window) }
         ensures noted { NotesNone self.old.outbound self.new.outbound }
         ensures none_held { self.new.outbound.acks.acks.items ≡ [] }
-        ensures takes { SendsAndTakes (map packet_of self.old.outbound.acks.acks.items) self.old.has_failed self.old.now buf.old buf.new (state_of (P.meaning self.old.port) self.old) (state_of (P.meaning self.new.port) self.new) result }
+        ensures takes { SendsAndTakes (acks_of self.old) self.old.has_failed self.old.now buf.old buf.new (state_of (P.meaning self.old.port) self.old) (state_of (P.meaning self.new.port) self.new) result }
         ensures ready { OnOk result (self.new.has_failed ≡ self.old.has_failed) }
         ensures failed { OnErr result (self.new.has_failed ≡ false) }
     {
@@ -434,8 +436,8 @@ impl<P: Port, C: Clock> Port for FlowPort<P, C> {
 
     fn send(&mut self, to: u64, bytes: &[u8]) -> Result<(), Failed>
         ensures sends { Sends to bytes.now (unknown self.old.faults self.old.losses self.old.empties) (unknown self.new.faults self.new.losses self.new.empties) result }
-        ensures passes_on { PassesOn (given_by (P.gives self.old.port) self.old.inbound) (given_by (P.gives self.new.port) self.new.inbound) (sent_with (P.may_send self.old.port) self.old.outbound.acks.acks.items) (sent_with (P.may_send self.new.port) self.new.outbound.acks.acks.items) to bytes.now }
-        ensures goes { Sends to bytes.now (P.meaning self.old.port) (P.meaning self.new.port) result ⊎ (IsOk result × (self.new.port ≡ self.old.port) × MayWait to bytes.now self.old.now self.old.outbound self.new.outbound × NotesNone self.old.outbound self.new.outbound) }
+        ensures passes_on { PassesOnBy (given_over P.gives) (sent_over P.may_send) self.old self.new to bytes.now }
+        ensures goes { Sends to bytes.now (P.meaning self.old.port) (P.meaning self.new.port) result ⊎ (IsOk result × IsHeldBack to bytes.now self.old self.new) }
         ensures noted { Notes to bytes.now self.old.now self.old.outbound self.new.outbound }
         ensures held { HoldsStill to bytes.now self.old.outbound self.new.outbound }
         ensures window { WindowSends bytes.now self.old.now self.old.outbound.window self.new.outbound.window }
@@ -461,7 +463,7 @@ impl<P: Port, C: Clock> Port for FlowPort<P, C> {
 
     fn reserve(&mut self, sends: u64, bytes: u64) -> Result<(), NoMemory>
         ensures reserves { Reserves sends bytes (unknown self.old.faults self.old.losses self.old.empties) (unknown self.new.faults self.new.losses self.new.empties) result }
-        ensures rests { Rests (given_by (P.gives self.old.port) self.old.inbound) (given_by (P.gives self.new.port) self.new.inbound) (sent_with (P.may_send self.old.port) self.old.outbound.acks.acks.items) (sent_with (P.may_send self.new.port) self.new.outbound.acks.acks.items) }
+        ensures rests { RestsBy (given_over P.gives) (sent_over P.may_send) self.old self.new }
         ensures noted { NotesNone self.old.outbound self.new.outbound }
         ensures acks { self.new.outbound.acks ≡ self.old.outbound.acks }
         ensures reading { (after : Option Readings) × Gives (C.readings self.old.clock) after self.new.now }
@@ -475,7 +477,7 @@ impl<P: Port, C: Clock> Port for FlowPort<P, C> {
 
     fn poll_soon(&mut self)
         ensures same { unknown self.new.faults self.new.losses self.new.empties ≡ unknown self.old.faults self.old.losses self.old.empties }
-        ensures rests { Rests (given_by (P.gives self.old.port) self.old.inbound) (given_by (P.gives self.new.port) self.new.inbound) (sent_with (P.may_send self.old.port) self.old.outbound.acks.acks.items) (sent_with (P.may_send self.new.port) self.new.outbound.acks.acks.items) }
+        ensures rests { RestsBy (given_over P.gives) (sent_over P.may_send) self.old self.new }
         ensures soon { self.new ≡ record self.old { is_soon = true } }
     {
         self.is_soon = true;
@@ -483,8 +485,8 @@ impl<P: Port, C: Clock> Port for FlowPort<P, C> {
 
     fn flush(&mut self)
         ensures same { unknown self.new.faults self.new.losses self.new.empties ≡ unknown self.old.faults self.old.losses self.old.empties }
-        ensures rests { Rests (given_by (P.gives self.old.port) self.old.inbound) (given_by (P.gives self.new.port) self.new.inbound) (sent_with (P.may_send self.old.port) self.old.outbound.acks.acks.items) (sent_with (P.may_send self.new.port) self.new.outbound.acks.acks.items) }
-        ensures goes { (said : List Packet) × Tells self.old.now self.old.hearing self.new.hearing said × SendsAll (map packet_of self.old.outbound.acks.acks.items ++ said) (P.meaning self.old.port) (P.meaning self.new.port) }
+        ensures rests { RestsBy (given_over P.gives) (sent_over P.may_send) self.old self.new }
+        ensures goes { (said : List Packet) × Tells self.old.now self.old.hearing self.new.hearing said × SendsAll (acks_of self.old ++ said) (P.meaning self.old.port) (P.meaning self.new.port) }
         ensures none_held { self.new.outbound.acks.acks.items ≡ [] }
         ensures noted { NotesNone self.old.outbound self.new.outbound }
         ensures window { self.new.outbound.window ≡ self.old.outbound.window }

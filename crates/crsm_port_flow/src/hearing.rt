@@ -2,12 +2,11 @@
 
 ghost use Rattle.std.specs.Prelude.{◌≡◌, ◌≢◌, ◌↔◌, ◌+◌, ◌-◌, ◌^◌, ◌<◌, ℕ, List, map, min, None, true, false, IfOk, IfSome, IsTrue};
 ghost use Rattle.std.specs.Int.{IsBitSet, bit_at};
-ghost use Rattle.crsm_port.specs.Meaning.{Packet};
+ghost use Rattle.crsm_port.specs.Meaning.{Packet, SendsAll};
 ghost use Rattle.crsm_port.specs.Passing.{NoMore, either};
 ghost use Rattle.crsm_port_flow.specs.Acks.{SaysHearing};
 ghost use Rattle.crsm_port_flow.specs.Hears.{AreKnownBy, IsHeard, SaysHeard, SaysHears, Tells, unheard};
 ghost use Rattle.crsm_port_flow.specs.Taken.{IsOfDeaf, IsPeer, IsSaid, IsStranger};
-ghost use Rattle.crsm_port_flow.specs.Waits.{SendsAll};
 
 use crate::time::is_recent;
 use crsm_base::NoMemory;

@@ -2,9 +2,9 @@
 use Rattle.std.proofs.Common.{◌≤◌, ℕ, List, [], ◌∷◌, Ok, Err, refl, ap, subst, arith, inl, inr}
 use Rattle.std.specs.Prelude.{IsOk, OnErr, OnOk, Result}
 use Rattle.crsm_base.specs.declared.memory.Failed.{Failed}
-use Rattle.crsm_port.specs.Meaning.{Meaning, Packet}
+use Rattle.crsm_port.specs.Meaning.{Meaning, Packet, SendsAll}
 use Rattle.crsm_port_faults.specs.Counts.{Rose}
-use Rattle.crsm_port_packets.specs.Given.{MayLetGo, SendsAll}
+use Rattle.crsm_port_packets.specs.Given.{MayLetGo}
 
 pub on_ok : (r : Result (Unit {0}) Failed) (P : Type 0) → (IsOk r → P) → OnOk r P
 on_ok (Ok u) P f = f refl

@@ -3,11 +3,11 @@ use Rattle.std.proofs.Common.{◌≡◌, ◌∙◌, ◌+◌, ◌≤◌, ◌++◌
 use Rattle.std.specs.Prelude.{◌⊎◌, ◌==◌, All, Contains, slice_get}
 use Rattle.std.proofs.lemmas.List.Elements.{All-append, All-nil, All-weaker, Contains-append_cases, Contains-append_left, Contains-append_right, Contains-push}
 use Rattle.crsm_base.specs.declared.memory.Failed.{Failed}
-use Rattle.crsm_port.specs.Meaning.{Meaning, Packet, Sends}
+use Rattle.crsm_port.specs.Meaning.{Meaning, Packet, Sends, SendsAll}
 use Rattle.crsm_port.specs.Passing.{Among, NoMore}
 use Rattle.crsm_port_packets.specs.Carrying.{carried}
 use Rattle.crsm_port_packets.specs.Format.{StandsIn, entries_of, entry, entry_at, first, is_packed, later}
-use Rattle.crsm_port_packets.specs.Given.{Holds, IsOfPacket, IsOfWaiting, LetsGo, PacketGoes, SendsAll}
+use Rattle.crsm_port_packets.specs.Given.{Holds, IsOfPacket, IsOfWaiting, LetsGo, PacketGoes}
 use Rattle.crsm_port_packets.specs.Sent.{HasOneMore, IsBundle, IsFilled, standing_in}
 use Rattle.crsm_port_packets.proofs.Bundles.{entries_more, entry_first, filled_waits, same_pair}
 use Rattle.crsm_port_packets.proofs.Passings.{carries_less}

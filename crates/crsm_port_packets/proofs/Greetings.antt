@@ -3,8 +3,8 @@ use Rattle.std.proofs.Common.{◌≡◌, ◌∙◌, ◌+◌, ◌<◌, ◌≤◌,
 use Rattle.std.proofs.lemmas.List.Elements.{All-push, Contains-get_or}
 use Rattle.std.specs.Prelude.{◌⊎◌, Contains, Result, slice_index_or}
 use Rattle.crsm_base.specs.declared.memory.Failed.{Failed}
-use Rattle.crsm_port.specs.Meaning.{Meaning, Packet, Sends}
-use Rattle.crsm_port_packets.specs.Given.{AllGreet, LetsGo, SendsAll}
+use Rattle.crsm_port.specs.Meaning.{Meaning, Packet, Sends, SendsAll}
+use Rattle.crsm_port_packets.specs.Given.{AllGreet, LetsGo}
 use Rattle.crsm_port_packets.specs.Peers.{IsPeer, SamePeers, addresses_of}
 use Rattle.crsm_port_packets.specs.declared.peer.Peer.{Peer}
 use Rattle.crsm_port_packets.proofs.Goings.{let_go_both, sends_both}

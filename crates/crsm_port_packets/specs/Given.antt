@@ -1,16 +1,10 @@
 -- What the port below is given, in turn, and what goes with it.
-use Rattle.std.specs.Prelude.{◌≡◌, ◌⊎◌, ◌≤◌, ℕ, List, [], ◌∷◌, length, All, Contains, Result}
-use Rattle.crsm_base.specs.declared.memory.Failed.{Failed}
-use Rattle.crsm_port.specs.Meaning.{Meaning, Packet, Sends}
+use Rattle.std.specs.Prelude.{◌≡◌, ◌⊎◌, ◌≤◌, ℕ, List, [], ◌∷◌, length, All, Contains}
+use Rattle.crsm_port.specs.Meaning.{Meaning, Packet, SendsAll}
 use Rattle.crsm_port.specs.Passing.{Among}
 use Rattle.crsm_port_packets.specs.Carrying.{carried}
 use Rattle.crsm_port_packets.specs.Format.{entries_of}
 use Rattle.crsm_port_packets.specs.Sent.{standing_in}
-
--- a port is given these packets in turn
-abbrev pub SendsAll : List Packet → Meaning → Meaning → Type 0
-SendsAll [] old new = new ≡ old
-SendsAll (p ∷ ps) old new = (between : Meaning) × (result : Result (Unit {0}) Failed) × Sends p.address p.bytes old between result × SendsAll ps between new
 
 -- the packet is a bundle that has this datagram
 abbrev pub Holds : List ℕ → List ℕ → Type 0

@@ -5,8 +5,10 @@ pub mod Format
 pub mod Given
 pub mod Held
 pub mod Kept
+pub mod New
 pub mod Peers
 pub mod Receiving
 pub mod Sending
 pub mod Sent
+pub mod Traffic
 pub mod Waiting

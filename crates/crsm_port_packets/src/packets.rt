@@ -1,18 +1,18 @@
 //! `PacketsPort`: packets of a size that networks carry whole.
 
-ghost use Rattle.std.specs.Prelude.{◌≡◌, ◌≤◌, ◌⊎◌, List, [], map, Contains, None, false, true, take, IfOk, IfSome, OnErr, OnOk, length, vec_capacity};
+ghost use Rattle.std.specs.Prelude.{◌≡◌, ◌≤◌, ◌⊎◌, List, [], Contains, None, false, true, take, IfOk, IfSome, OnErr, OnOk, length, vec_capacity};
 ghost use Rattle.crsm_clock.specs.Readings.{Gives};
-ghost use Rattle.crsm_port.specs.Meaning.{CountsEmpty, IsWithin, Meaning, Packet, Receives, Reserves, Sends};
-ghost use Rattle.crsm_port.specs.Passing.{HandsUp, IsOf, NoMore, OneMore, Only, PassesOn, Rests, either};
+ghost use Rattle.crsm_port.specs.Meaning.{CountsEmpty, IsWithin, Packet, Receives, Reserves, Sends, SendsAll};
+ghost use Rattle.crsm_port.specs.Passing.{HandsUpBy, IsOf, NoMore, OneMore, Only, PassesOnBy, RestsBy, either};
 ghost use Rattle.crsm_port.specs.Sent.{packets_of};
 ghost use Rattle.crsm_port.specs.Unknown.{unknown};
 ghost use Rattle.crsm_port_faults.specs.Counts.{Rose};
 ghost use Rattle.crsm_port_packets.specs.Carrying.{carried, put_together};
 ghost use Rattle.crsm_port_packets.specs.Cutting.{AreApart, AreOfCuts, CutDatagram, cut_in, fragments_from};
 ghost use Rattle.crsm_port_packets.specs.Format.{is_packed};
-ghost use Rattle.crsm_port_packets.specs.Given.{AllGreet, LetsGo, LetsGoAndGreets, MayLetGo, SendsAll};
+ghost use Rattle.crsm_port_packets.specs.Given.{AllGreet, LetsGo, LetsGoAndGreets, MayLetGo};
 ghost use Rattle.crsm_port_packets.specs.Held.{Opens, fragments_with, unpacked};
-ghost use Rattle.crsm_port_packets.specs.Peers.{IsPeer, SamePeers, Speaks, addresses_of, unheard};
+ghost use Rattle.crsm_port_packets.specs.Peers.{IsPeer, SamePeers, Speaks, addresses_of};
 ghost use Rattle.crsm_port_packets.specs.Receiving.{IsAsItIs, IsDatagram, IsOpenedOf, NoneLeft, left_in};
 ghost use Rattle.crsm_port_packets.specs.Sent.{sent_with};
 
@@ -45,7 +45,7 @@ const MOST_EMPTY: usize = 64;
 /// all have arrived. All this is for peers alone, and for a peer from which such a packet came within three seconds;
 /// each peer is sent one every second. To any other address each datagram goes out as it is.
 ///
-/// A datagram that waits is answered as sent. Only the port's counters are specified.
+/// A datagram that waits is answered as sent. Each call says what goes up, what goes out and what waits.
 #[derive(Drop)]
 pub struct PacketsPort<P, C> {
     port: P,
@@ -71,6 +71,8 @@ pub struct PacketsPort<P, C> {
 }
 
 impl<P: Drop, C: Drop> PacketsPort<P, C> {
+    ghost use Rattle.crsm_port_packets.specs.New.{IsNew};
+
     /// Returns a port over `inner` that reads `clock`, in microseconds, for a node whose peers have these addresses
     /// (IPv4 x 65,536 + port). `NoMemory` if memory runs out.
     pub fn new(
@@ -79,7 +81,7 @@ impl<P: Drop, C: Drop> PacketsPort<P, C> {
         clock: C,
         peers: &[u64],
     ) -> Result<PacketsPort<P, C>, NoMemory>
-        ensures made { IfOk result (λ p. (p.port ≡ inner) × (p.clock ≡ clock) × (p.peers.items ≡ map unheard peers.now) × (packets_of p.waiting ≡ [])) }
+        ensures made { IfOk result (IsNew inner clock peers.now) }
         ensures nothing { IfOk result (λ p. (left_in p.received.unpacking ≡ []) × (p.received.fragments.pieces.items ≡ [])) }
     {
         let mut known = Vec::with_capacity(alloc, peers.len())?;
@@ -400,19 +402,19 @@ impl<P: Port, C: Clock> PacketsPort<P, C> {
 }
 
 impl<P: Port, C: Clock> Port for PacketsPort<P, C> {
-    ghost use Rattle.crsm_port_packets.specs.Asking.{AsksUntil, taker_of};
     ghost use Rattle.crsm_port_packets.specs.Sending.{IsPassedOn, IsRefused, sender_of};
+    ghost use Rattle.crsm_port_packets.specs.Traffic.{LetsGoAndAsks, StaysWhenSent, given_over, sent_over};
 
     ghost meaning = { λ p. unknown p.faults p.losses p.empties };
 
-    ghost gives = { λ p. unpacked (P.gives p.port) p.received };
+    ghost gives = { given_over P.gives };
 
-    ghost may_send = { λ p. sent_with (P.may_send p.port) (packets_of p.waiting) };
+    ghost may_send = { sent_over P.may_send };
 
     fn recv(&mut self, buf: &mut [u8]) -> Result<Recv, Failed>
         ensures receives { Receives (unknown self.old.faults self.old.losses self.old.empties) (unknown self.new.faults self.new.losses self.new.empties) buf.old buf.new result }
-        ensures hands_up { HandsUp (unpacked (P.gives self.old.port) self.old.received) (unpacked (P.gives self.new.port) self.new.received) (sent_with (P.may_send self.old.port) (packets_of self.old.waiting)) (sent_with (P.may_send self.new.port) (packets_of self.new.waiting)) buf.new result }
-        ensures goes { (between : Meaning) × LetsGo (addresses_of self.old.peers.items) (packets_of self.old.waiting) (P.meaning self.old.port) between × AsksUntil (addresses_of self.old.peers.items) (length buf.old) buf.new (record { below = between; held = self.old.received }) (taker_of (P.meaning self.new.port) self.new) result }
+        ensures hands_up { HandsUpBy (given_over P.gives) (sent_over P.may_send) self.old self.new buf.new result }
+        ensures goes { LetsGoAndAsks P.meaning (length buf.old) buf.new self.old self.new result }
         ensures addresses { addresses_of self.new.peers.items ≡ addresses_of self.old.peers.items }
         ensures none { packets_of self.new.waiting ≡ [] }
     {
@@ -425,12 +427,12 @@ impl<P: Port, C: Clock> Port for PacketsPort<P, C> {
 
     fn send(&mut self, to: u64, bytes: &[u8]) -> Result<(), Failed>
         ensures sends { Sends to bytes.now (unknown self.old.faults self.old.losses self.old.empties) (unknown self.new.faults self.new.losses self.new.empties) result }
-        ensures passes_on { PassesOn (unpacked (P.gives self.old.port) self.old.received) (unpacked (P.gives self.new.port) self.new.received) (sent_with (P.may_send self.old.port) (packets_of self.old.waiting)) (sent_with (P.may_send self.new.port) (packets_of self.new.waiting)) to bytes.now }
+        ensures passes_on { PassesOnBy (given_over P.gives) (sent_over P.may_send) self.old self.new to bytes.now }
         ensures goes { OnOk result (IsPassedOn to bytes.now (sender_of (P.meaning self.old.port) self.old) (sender_of (P.meaning self.new.port) self.new)) }
         ensures refused { OnErr result (IsRefused bytes.now (sender_of (P.meaning self.old.port) self.old) (sender_of (P.meaning self.new.port) self.new)) }
         ensures peers { SamePeers self.old.peers.items self.new.peers.items }
         ensures numbers { self.old.number ≤ self.new.number }
-        ensures stays { self.new ≡ record self.old { port = self.new.port; peers = self.new.peers; number = self.new.number; waiting = self.new.waiting; packet = self.new.packet; roomy = self.new.roomy; losses = self.new.losses } }
+        ensures stays { StaysWhenSent self.old self.new }
     {
         match self.pass_on(to, bytes) {
             Ok(()) => Ok(()),
@@ -443,7 +445,7 @@ impl<P: Port, C: Clock> Port for PacketsPort<P, C> {
 
     fn reserve(&mut self, sends: u64, bytes: u64) -> Result<(), NoMemory>
         ensures reserves { Reserves sends bytes (unknown self.old.faults self.old.losses self.old.empties) (unknown self.new.faults self.new.losses self.new.empties) result }
-        ensures rests { Rests (unpacked (P.gives self.old.port) self.old.received) (unpacked (P.gives self.new.port) self.new.received) (sent_with (P.may_send self.old.port) (packets_of self.old.waiting)) (sent_with (P.may_send self.new.port) (packets_of self.new.waiting)) }
+        ensures rests { RestsBy (given_over P.gives) (sent_over P.may_send) self.old self.new }
         ensures below { Reserves sends bytes (P.meaning self.old.port) (P.meaning self.new.port) result }
         ensures reading { Gives (C.readings self.old.clock) (C.readings self.new.clock) self.new.now }
         ensures stays { self.new ≡ record self.old { port = self.new.port; clock = self.new.clock; now = self.new.now } }
@@ -454,7 +456,7 @@ impl<P: Port, C: Clock> Port for PacketsPort<P, C> {
 
     fn poll_soon(&mut self)
         ensures same { unknown self.new.faults self.new.losses self.new.empties ≡ unknown self.old.faults self.old.losses self.old.empties }
-        ensures rests { Rests (unpacked (P.gives self.old.port) self.old.received) (unpacked (P.gives self.new.port) self.new.received) (sent_with (P.may_send self.old.port) (packets_of self.old.waiting)) (sent_with (P.may_send self.new.port) (packets_of self.new.waiting)) }
+        ensures rests { RestsBy (given_over P.gives) (sent_over P.may_send) self.old self.new }
         ensures soon { self.new ≡ record self.old { is_soon = true } }
     {
         self.is_soon = true;
@@ -462,7 +464,7 @@ impl<P: Port, C: Clock> Port for PacketsPort<P, C> {
 
     fn wait_long(&mut self)
         ensures same { unknown self.new.faults self.new.losses self.new.empties ≡ unknown self.old.faults self.old.losses self.old.empties }
-        ensures rests { Rests (unpacked (P.gives self.old.port) self.old.received) (unpacked (P.gives self.new.port) self.new.received) (sent_with (P.may_send self.old.port) (packets_of self.old.waiting)) (sent_with (P.may_send self.new.port) (packets_of self.new.waiting)) }
+        ensures rests { RestsBy (given_over P.gives) (sent_over P.may_send) self.old self.new }
         ensures stays { self.new ≡ record self.old { port = self.new.port } }
     {
         self.port.wait_long();
@@ -470,7 +472,7 @@ impl<P: Port, C: Clock> Port for PacketsPort<P, C> {
 
     fn flush(&mut self)
         ensures same { unknown self.new.faults self.new.losses self.new.empties ≡ unknown self.old.faults self.old.losses self.old.empties }
-        ensures rests { Rests (unpacked (P.gives self.old.port) self.old.received) (unpacked (P.gives self.new.port) self.new.received) (sent_with (P.may_send self.old.port) (packets_of self.old.waiting)) (sent_with (P.may_send self.new.port) (packets_of self.new.waiting)) }
+        ensures rests { RestsBy (given_over P.gives) (sent_over P.may_send) self.old self.new }
         ensures goes { LetsGoAndGreets (addresses_of self.old.peers.items) (packets_of self.old.waiting) (P.meaning self.old.port) (P.meaning self.new.port) }
         ensures none { packets_of self.new.waiting ≡ [] }
         ensures peers { SamePeers self.old.peers.items self.new.peers.items }

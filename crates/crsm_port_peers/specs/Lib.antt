@@ -1,2 +1,4 @@
-pub mod Senders
 pub mod Laws
+pub mod New
+pub mod Senders
+pub mod Traffic

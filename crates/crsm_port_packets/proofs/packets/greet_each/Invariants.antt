@@ -1,8 +1,8 @@
 use Rattle.std.proofs.Common.{List}
-use Rattle.crsm_port.specs.Meaning.{Packet}
+use Rattle.crsm_port.specs.Meaning.{Packet, SendsAll}
 use Rattle.crsm_port.specs.Passing.{NoMore}
 use Rattle.crsm_port_packets.specs.Carrying.{carried}
-use Rattle.crsm_port_packets.specs.Given.{AllGreet, SendsAll}
+use Rattle.crsm_port_packets.specs.Given.{AllGreet}
 use Rattle.crsm_port_packets.specs.Peers.{SamePeers, addresses_of}
 use Rattle.crsm_port_packets.proofs.packets.greet_each.Given as goal
 

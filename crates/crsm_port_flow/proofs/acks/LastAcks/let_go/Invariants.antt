@@ -1,7 +1,7 @@
 use Rattle.std.proofs.Common.{map, take}
+use Rattle.crsm_port.specs.Meaning.{SendsAll}
 use Rattle.crsm_port.specs.Passing.{NoMore}
 use Rattle.crsm_port_flow.specs.Acks.{packet_of, sent_with}
-use Rattle.crsm_port_flow.specs.Waits.{SendsAll}
 use Rattle.crsm_port_flow.proofs.acks.LastAcks.let_go.Given as goal
 
 abbrev pub invariant-loop-ack : goal.invariant-loop-ack

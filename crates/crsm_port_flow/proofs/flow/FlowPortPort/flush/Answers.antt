@@ -1,9 +1,8 @@
 use Rattle.std.proofs.Common.{◌++◌, map, subst, sym}
-use Rattle.crsm_port.specs.Meaning.{Meaning}
+use Rattle.crsm_port.specs.Meaning.{Meaning, SendsAll}
 use Rattle.crsm_port_flow.proofs.Flows.{flushed}
 use Rattle.crsm_port_flow.proofs.Sendings.{sends_both}
 use Rattle.crsm_port_flow.specs.Acks.{packet_of}
-use Rattle.crsm_port_flow.specs.Waits.{SendsAll}
 use Rattle.crsm_port_flow.proofs.flow.FlowPortPort.flush.Goals as goal
 
 pub returns-clause-goes : goal.returns-clause-goes

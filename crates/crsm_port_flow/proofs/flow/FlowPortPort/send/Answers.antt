@@ -9,7 +9,7 @@ returns-then-not-may_go-clause-passes_on g c =
     c.args.bytes.now refl c.note_sent.ensures.rest refl c.may_go.ensures.held
 
 pub returns-then-not-may_go-clause-goes : goal.returns-then-not-may_go-clause-goes
-returns-then-not-may_go-clause-goes g c = let (waits, noted) = c.may_go.ensures.later c.if-not-may_go.true in inr (refl, refl, waits, noted)
+returns-then-not-may_go-clause-goes g c = let (waits, noted) = c.may_go.ensures.later c.if-not-may_go.true in inr (refl, (refl, waits, noted))
 
 pub returns-in-Ok-clause-passes_on : goal.returns-in-Ok-clause-passes_on
 returns-in-Ok-clause-passes_on g c =

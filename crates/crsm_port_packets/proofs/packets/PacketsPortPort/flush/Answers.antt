@@ -1,8 +1,8 @@
 use Rattle.std.proofs.Common.{◌≡◌, ◌∙◌, ℕ, List, ap, refl, subst, sym}
-use Rattle.crsm_port.specs.Meaning.{Meaning}
+use Rattle.crsm_port.specs.Meaning.{Meaning, SendsAll}
 use Rattle.crsm_port.specs.Sent.{packets_of}
 use Rattle.crsm_port_packets.specs.Carrying.{carried}
-use Rattle.crsm_port_packets.specs.Given.{AllGreet, SendsAll}
+use Rattle.crsm_port_packets.specs.Given.{AllGreet}
 use Rattle.crsm_port_packets.specs.Peers.{addresses_of}
 use Rattle.crsm_port_packets.specs.Sent.{sent_with}
 use Rattle.crsm_port_packets.specs.declared.peer.Peer.{Peer}
