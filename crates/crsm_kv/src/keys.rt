@@ -1,9 +1,11 @@
 //! The key map of the store, and the effect of an operation on it.
 
-ghost use Rattle.std.specs.Prelude.{◌≡◌, ℕ, List, ◌||◌, nat_lt, length, is_some, IfOk, OnOk, OnErr, bytes_eq};
+ghost use Rattle.std.specs.Prelude.{◌≡◌, ◌||◌, nat_lt, length, is_some, IfOk, OnErr, bytes_eq};
 ghost use Rattle.std.specs.Option.{option_copied, option_eq};
 ghost use Rattle.crsm_base.specs.Limits.{most_keys};
-ghost use Rattle.crsm_base.specs.Store.{value_at, put_key, without_key, operate};
+ghost use Rattle.crsm_base.specs.Store.{value_at, change_key, found, put_key, without_key, operate};
+ghost use Rattle.crsm_base.specs.declared.Op.{Op as OpOnPaper};
+ghost use Rattle.crsm_base.specs.declared.answer.Answer.{Answer as OnPaper};
 
 use crsm_base::{Answer, Key, MAX_KEYS, NoMemory, Op, Val};
 use std::alloc::Global;
@@ -39,16 +41,11 @@ fn is_expected(current: Option<&Val>, expected: &Option<Val>) -> bool
     }
 }
 
-/// Returns the answer to setting the key: `Done`, or `NoRoom` if the key is new and the store is full.
-#[tactic(auto, unfolding(crsm_base::specs::Store::put_key))]
-fn answer_to_put(keys: &Keys, key: &Key) -> Answer
-    ensures { (value : List ℕ) → result ≡ (put_key key.now value keys.now.entries).1 }
-{
-    if has_room(keys, key) {
-        Answer::Done
-    } else {
-        Answer::NoRoom
-    }
+/// The answer to an operation, twice: one for the client, and one that is kept.
+#[derive(Drop)]
+pub struct Answered {
+    pub told: Answer,
+    pub kept: Answer,
 }
 
 fn copy_of(alloc: Global, value: Option<&Val>) -> Result<Option<Val>, NoMemory>
@@ -60,77 +57,126 @@ fn copy_of(alloc: Global, value: Option<&Val>) -> Result<Option<Val>, NoMemory>
     }
 }
 
-/// Returns the answer to the operation, which is not executed. `NoMemory` if memory runs out.
-#[tactic(auto, unfolding(crsm_base::specs::Store::operate, crsm_base::specs::Store::change_key, crsm_base::specs::Store::found))]
-pub fn answer_to(alloc: Global, keys: &Keys, op: &Op) -> Result<Answer, NoMemory>
-    ensures { IfOk result (λ answer. answer ≡ (operate keys.now.entries op.now).1) }
+/// Returns the answer to a get of this value.
+#[tactic(auto, unfolding(crsm_base::specs::Store::found))]
+fn found(alloc: Global, value: Option<&Val>) -> Result<Answered, NoMemory>
+    ensures told { IfOk result (λ made. made.told ≡ found (option_copied value.entry)) }
+    ensures kept { IfOk result (λ made. made.kept ≡ made.told) }
 {
-    match op {
-        Op::Get(key) => match value_of(keys, key) {
-            Some(value) => Ok(Answer::Found(value.copy(alloc)?)),
-            None => Ok(Answer::Missing),
-        },
-        Op::Put(key, _) => Ok(answer_to_put(keys, key)),
-        Op::Delete(key) => match value_of(keys, key) {
-            Some(_) => Ok(Answer::Done),
-            None => Ok(Answer::Missing),
-        },
-        Op::Cas(key, expected, new) => {
-            let current = value_of(keys, key);
-            if !is_expected(current, expected) {
-                return Ok(Answer::Differs(copy_of(alloc, current)?));
-            }
-            match new {
-                Some(_) => Ok(answer_to_put(keys, key)),
-                None => Ok(Answer::Done),
-            }
-        }
+    match value {
+        Some(value) => Ok(Answered {
+            told: Answer::Found(value.copy(alloc)?),
+            kept: Answer::Found(value.copy(alloc)?),
+        }),
+        None => Ok(Answered {
+            told: Answer::Missing,
+            kept: Answer::Missing,
+        }),
     }
+}
+
+/// Returns the answer to a compare-and-set that found this value in place of the expected one.
+fn differs(alloc: Global, value: Option<&Val>) -> Result<Answered, NoMemory>
+    ensures told { IfOk result (λ made. made.told ≡ OnPaper.Differs (option_copied value.entry)) }
+    ensures kept { IfOk result (λ made. made.kept ≡ made.told) }
+{
+    Ok(Answered {
+        told: Answer::Differs(copy_of(alloc, value)?),
+        kept: Answer::Differs(copy_of(alloc, value)?),
+    })
 }
 
 /// Sets the key, unless it is new and the store is full. `NoMemory` if memory runs out; the keys are then unchanged.
 #[tactic(auto, using(crate::proofs::KeysLemmas::keys_rules), unfolding(crsm_base::specs::Store::put_key))]
-fn put(alloc: Global, keys: &mut Keys, key: &Key, value: &Val) -> Result<(), NoMemory>
-    ensures ok { OnOk result (keys.new.entries ≡ (put_key key.now value.now keys.old.entries).0) }
+fn put(alloc: Global, keys: &mut Keys, key: &Key, value: &Val) -> Result<Answered, NoMemory>
+    ensures told { IfOk result (λ made. (keys.new.entries, made.told) ≡ put_key key.now value.now keys.old.entries) }
+    ensures kept { IfOk result (λ made. made.kept ≡ made.told) }
     ensures err { OnErr result (keys.new.entries ≡ keys.old.entries) }
 {
-    if has_room(keys, key) {
-        keys.insert(key.copy(alloc)?, value.copy(alloc)?)?;
+    if !has_room(keys, key) {
+        return Ok(Answered {
+            told: Answer::NoRoom,
+            kept: Answer::NoRoom,
+        });
     }
-    Ok(())
+    keys.insert(key.copy(alloc)?, value.copy(alloc)?)?;
+    Ok(Answered {
+        told: Answer::Done,
+        kept: Answer::Done,
+    })
 }
 
+/// Removes the key, and returns whether it existed.
 #[tactic(auto, using(crate::proofs::KeysLemmas::keys_rules))]
-fn remove(keys: &mut Keys, key: &Key)
-    ensures { keys.new.entries ≡ without_key key.now keys.old.entries }
+fn remove(keys: &mut Keys, key: &Key) -> bool
+    ensures existed { result ≡ is_some (value_at key.now keys.old.entries) }
+    ensures rest { keys.new.entries ≡ without_key key.now keys.old.entries }
 {
-    let _ = keys.remove(key);
+    keys.remove(key).is_some()
 }
 
-/// Executes the operation on the keys. `NoMemory` if memory runs out.
-#[tactic(auto, unfolding(crsm_base::specs::Store::operate, crsm_base::specs::Store::change_key))]
-pub fn change(alloc: Global, keys: &mut Keys, op: &Op) -> Result<(), NoMemory>
-    ensures ok { OnOk result (keys.new.entries ≡ (operate keys.old.entries op.now).0) }
+/// Removes the key and returns the answer to that: `Missing` if it does not exist.
+#[tactic(auto, unfolding(crsm_base::specs::Store::operate))]
+fn delete(keys: &mut Keys, key: &Key) -> Answered
+    ensures told { (keys.new.entries, result.told) ≡ operate keys.old.entries (OpOnPaper.Delete key.now) }
+    ensures kept { result.kept ≡ result.told }
+{
+    if remove(keys, key) {
+        Answered {
+            told: Answer::Done,
+            kept: Answer::Done,
+        }
+    } else {
+        Answered {
+            told: Answer::Missing,
+            kept: Answer::Missing,
+        }
+    }
+}
+
+/// Sets the key to this value, or removes it if there is none. `NoMemory` if memory runs out; the keys are then
+/// unchanged.
+#[tactic(auto, unfolding(crsm_base::specs::Store::change_key))]
+fn change(
+    alloc: Global,
+    keys: &mut Keys,
+    key: &Key,
+    new: &Option<Val>,
+) -> Result<Answered, NoMemory>
+    ensures told { IfOk result (λ made. (keys.new.entries, made.told) ≡ change_key key.now new.now keys.old.entries) }
+    ensures kept { IfOk result (λ made. made.kept ≡ made.told) }
+    ensures err { OnErr result (keys.new.entries ≡ keys.old.entries) }
+{
+    match new {
+        Some(value) => put(alloc, keys, key, value),
+        None => {
+            let _ = remove(keys, key);
+            Ok(Answered {
+                told: Answer::Done,
+                kept: Answer::Done,
+            })
+        }
+    }
+}
+
+/// Executes the operation on the keys, and returns its answer. `NoMemory` if memory runs out; the keys are then
+/// unchanged.
+#[tactic(auto, unfolding(crsm_base::specs::Store::operate))]
+pub fn execute(alloc: Global, keys: &mut Keys, op: &Op) -> Result<Answered, NoMemory>
+    ensures told { IfOk result (λ made. (keys.new.entries, made.told) ≡ operate keys.old.entries op.now) }
+    ensures kept { IfOk result (λ made. made.kept ≡ made.told) }
     ensures err { OnErr result (keys.new.entries ≡ keys.old.entries) }
 {
     match op {
-        Op::Get(_) => Ok(()),
+        Op::Get(key) => found(alloc, value_of(keys, key)),
         Op::Put(key, value) => put(alloc, keys, key, value),
-        Op::Delete(key) => {
-            remove(keys, key);
-            Ok(())
-        }
+        Op::Delete(key) => Ok(delete(keys, key)),
         Op::Cas(key, expected, new) => {
-            if !is_expected(value_of(keys, key), expected) {
-                return Ok(());
+            let current = value_of(keys, key);
+            if !is_expected(current, expected) {
+                return differs(alloc, current);
             }
-            match new {
-                Some(value) => put(alloc, keys, key, value),
-                None => {
-                    remove(keys, key);
-                    Ok(())
-                }
-            }
+            change(alloc, keys, key, new)
         }
     }
 }

@@ -5,7 +5,7 @@ ghost use Rattle.std.specs.Option.{option_copied};
 ghost use Rattle.crsm_base.specs.Store.{no_rows, apply, serve, client_row, value_at, done, operate};
 
 use crate::clients::{self, Clients, Kept};
-use crate::keys::{self, Keys};
+use crate::keys::{self, Answered, Keys};
 use crsm_base::{Answer, Command, Key, MAX_CLIENTS, NoMemory, Val};
 use indexmap::IndexMap;
 use std::alloc::Global;
@@ -65,16 +65,15 @@ impl Store {
         ensures done { IfOk result (λ answer. (self.new, answer) ≡ done self.old command.now (operate self.old.keys command.now.op)) }
         ensures err { OnErr result (self.new ≡ self.old) }
     {
-        let answer = keys::answer_to(self.alloc, &self.keys, &command.op)?;
-        let kept = Kept {
-            number: command.number,
-            answer: answer.copy(self.alloc)?,
-        };
         // The client's row gets its room before a key changes, so that nothing has to be undone.
         self.clients.reserve(1)?;
-        keys::change(self.alloc, &mut self.keys, &command.op)?;
+        let Answered { told, kept } = keys::execute(self.alloc, &mut self.keys, &command.op)?;
+        let kept = Kept {
+            number: command.number,
+            answer: kept,
+        };
         clients::keep(&mut self.clients, command.client, kept)?;
-        Ok(answer)
+        Ok(told)
     }
 
     /// Returns the value of the key, or `None` if the key is missing.

@@ -1,6 +1,6 @@
 //! Encoding and parsing of log file entries.
 
-ghost use Rattle.std.specs.Prelude.{◌≡◌, ◌≢◌, ◌+◌, ◌*◌, ◌^◌, ◌<◌, ◌≤◌, ◌↔◌, ℕ, [], ◌∷◌, ◌++◌, length, IfOk, IfErr, IfSome, IsNone, slice_index, MatchResult, map, false};
+ghost use Rattle.std.specs.Prelude.{◌≡◌, ◌≢◌, ◌+◌, ◌*◌, ◌^◌, ◌<◌, ◌≤◌, ◌↔◌, ℕ, [], ◌∷◌, ◌++◌, length, IfOk, IfErr, IfSome, OnOk, IsNone, slice_index, MatchResult, map, false};
 ghost use Rattle.std.specs.Bool.{OnTrue};
 ghost use Rattle.crsm_log.specs.Format.{four_bytes, body_entry, cluster_entry, is_cluster, length_of, number_at, number_in, stands, may_stand};
 ghost use Rattle.crsm_log.specs.Log.{IsPast, entry_bytes};
@@ -16,6 +16,9 @@ pub(crate) const CLUSTER_FIELD: u64 = 0x8000_0008;
 
 // Exclusive upper bound of a body's length in bytes, so that the length is never a field of another kind.
 const BODY_BOUND: u64 = 0x8000_0000;
+
+// Maximum capacity in bytes of the memory that is kept for the next entry.
+const MAX_KEPT_BYTES: usize = 65_536;
 
 // Length in bytes of a cluster entry's content.
 pub(crate) const CLUSTER_BYTES: u64 = 8;
@@ -41,17 +44,22 @@ pub(crate) fn body_end(at: u64, length: u64) -> Option<u64>
     end_of(at, length)
 }
 
-// Encodes what follows a gate: the length, the body, and the next gate, closed.
-pub(crate) fn entry_of(alloc: Global, body: &[u8]) -> Result<Vec<u8>, NoMemory>
+// Writes to `out` what follows a gate: the length, the body, and the next gate, closed. Its memory is used again,
+// unless an earlier entry was long.
+pub(crate) fn encode_entry(alloc: Global, body: &[u8], out: &mut Vec<u8>) -> Result<(), NoMemory>
     requires { length body.now < 2 ^ 31 }
-    ensures { IfOk result (λ entry. entry.items ≡ entry_bytes (body_entry body.now)) }
+    ensures { OnOk result (out.new.items ≡ entry_bytes (body_entry body.now)) }
 {
+    if out.capacity() > MAX_KEPT_BYTES {
+        *out = Vec::new(alloc);
+    }
     let n = body.len();
-    let mut entry = Vec::with_capacity(alloc, n + 5)?;
-    entry.extend_from_slice(&four_bytes(n as u64))?;
-    entry.extend_from_slice(body)?;
-    entry.push(0)?;
-    Ok(entry)
+    out.clear();
+    out.reserve(n + 5)?;
+    out.extend_from_slice(&four_bytes(n as u64))?;
+    out.extend_from_slice(body)?;
+    out.push(0)?;
+    Ok(())
 }
 
 // Encodes a number in four bytes, big endian.

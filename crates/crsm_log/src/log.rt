@@ -10,7 +10,7 @@ ghost use Rattle.crsm_log.specs.Format.{reading, found, bodies_of, cluster_of};
 ghost use Rattle.crsm_log.specs.Log.{HasCluster, IsPast, IsSound, IsBeforeOrAfter, Goes, StopsAt, Used, put_calls, recorded, Mounts, Refuses};
 
 use crate::device::{read_log, write_body};
-use crate::entry::{body_end, entry_of};
+use crate::entry::{body_end, encode_entry};
 use crate::errors::{MountError, PutError};
 use crsm_base::{Bodies, Failed, NoMemory};
 use crsm_disk::Disk;
@@ -22,6 +22,8 @@ pub struct Log<D: Disk> {
     disk: D,
     end: u64,
     failed: bool,
+    /// The last entry: only its memory is used.
+    buffer: Vec<u8>,
     ghost small: { end ≤ 2 ^ 62 },
     ghost sound: { IsSound (D.meaning disk) end failed },
 }
@@ -42,6 +44,7 @@ impl<D: Disk> Log<D> {
                     disk,
                     end: held.gate,
                     failed: false,
+                    buffer: Vec::new(alloc),
                 },
                 held.bodies,
             )),
@@ -93,9 +96,9 @@ impl<D: Disk> Log<D> {
                 end: self.end + 6 + length,
             });
         };
-        let entry = entry_of(alloc, body)?;
-        self.disk.reserve(4, entry.len() as u64 + 1)?;
-        match write_body(&mut self.disk, self.end, &entry) {
+        encode_entry(alloc, body, &mut self.buffer)?;
+        self.disk.reserve(4, self.buffer.len() as u64 + 1)?;
+        match write_body(&mut self.disk, self.end, &self.buffer) {
             Ok(()) => {
                 self.end = end - 1;
                 Ok(())

@@ -6,7 +6,7 @@ use Rattle.crsm_log.proofs.log.Log.put.Goals as goal
 pub returns-in-Ok-clause-four : goal.returns-in-Ok-clause-four
 returns-in-Ok-clause-four g c p honest is =
     let room = c.in_ok-reserve.ensures.plan.room p is in
-    let ran = c.in-Ok.ensures.ran c.args.body.now (c.deref.ensures.value ∙ c.in_ok-entry.ensures) in
+    let ran = c.in-Ok.ensures.ran c.args.body.now (c.deref.ensures.value ∙ c.in_ok-encode_entry.ensures) in
     let sound = c.args.self.now.sound honest c.if-self.false in
     let S : Option ℕ → Type 0 = λ x. Serves 4 x in
     let left = c.in-Ok.ensures.left room.0 room.1 in
