@@ -68,7 +68,8 @@ impl Ledger {
         ensures known { self.new.known ≡ self.old.known }
         ensures mark { self.new.is_spent ≡ self.old.is_spent }
     {
-        let _line = self.held.run_next(self.me)?;
+        let line = self.held.run_next(self.me)?;
+        drop(line);
         Ok(())
     }
 

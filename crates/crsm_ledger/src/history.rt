@@ -159,7 +159,9 @@ impl History {
             Kept::Whole { entry } => self.run_line(me, entry),
             Kept::Executed { place } => {
                 let entry = self.entry(*place)?;
-                self.run_line(me, &entry)
+                let line = self.run_line(me, &entry);
+                drop(entry);
+                line
             }
         }
     }
@@ -225,7 +227,8 @@ impl History {
         ensures grows { Grows self.old self.new }
     {
         for entry in entries {
-            let _answer = self.run(entry)?;
+            let answer = self.run(entry)?;
+            drop(answer);
         }
         Ok(())
     }

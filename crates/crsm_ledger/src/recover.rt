@@ -28,6 +28,15 @@ impl Ledger {
         ensures bad { IfErr result (λ e. IfBadLog e (IsBadAt me n bodies.now)) }
     {
         let mut ledger = Ledger::new(alloc, me, n)?;
+        ledger.take_bodies(bodies)?;
+        Ok(ledger)
+    }
+
+    /// Applies the records of all bodies of a log to the ledger of an empty one.
+    fn take_bodies(&mut self, bodies: &Bodies) -> Result<(), LedgerError>
+        ensures whole { (me n : ℕ) → LedgerStands me n self.old [] → IfOk result (λ _. (log : List Rec) × AreKept me n [] bodies.now log × LedgerStands me n self.new log) }
+        ensures bad { (me n : ℕ) → LedgerStands me n self.old [] → IfErr result (λ e. IfBadLog e (IsBadAt me n bodies.now)) }
+    {
         let mut next = Remaining {
             rest: &[],
             accepted: &[],
@@ -37,12 +46,12 @@ impl Ledger {
             let Some(body) = bodies.get(index) else {
                 unreachable!();
             };
-            match ledger.take_body(index as u64, next.accepted, next.tail, body) {
+            match self.take_body(index as u64, next.accepted, next.tail, body) {
                 Ok(behind) => next = behind,
                 Err(error) => return Err(error),
             }
         }
-        Ok(ledger)
+        Ok(())
     }
 
     fn take_body<'a>(
@@ -116,6 +125,7 @@ impl Ledger {
     {
         if !self.admits(&rec) {
             let why = kind_of(&rec);
+            drop(rec);
             return Err(LedgerError::BadLog { entry, why });
         }
         self.follow(rec)?;

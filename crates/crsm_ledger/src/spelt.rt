@@ -144,7 +144,10 @@ fn make_room(alloc: Global, chunks: &mut Vec<Bytes>, more: usize) -> Result<(), 
 fn is_room(held: usize, more: usize) -> bool
     ensures { result ≡ true → held ≤ 65536 }
 {
-    held <= CHUNK_BYTES && more <= CHUNK_BYTES - held
+    if held > CHUNK_BYTES {
+        return false;
+    }
+    more <= CHUNK_BYTES - held
 }
 
 /// Appends these bytes to the last chunk and returns their range. `NoMemory` if memory runs out.

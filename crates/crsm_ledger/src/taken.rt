@@ -3,6 +3,7 @@
 
 ghost use Rattle.std.specs.Prelude.{◌≡◌, ◌<◌, ◌≤◌, ◌+◌, ◌++◌, ℕ, None, Some, length, IfOk, IfSome, MatchOption, OnOk};
 ghost use Rattle.std.specs.List.{AllByRecursion};
+ghost use Rattle.std.specs.Option.{option_map};
 ghost use Rattle.crsm_base.specs.RecordReading.{accept_at, adopt_at, boot_at, commit_at, decide_rec_at, enter_at, prepare_rec_at, promise_at, rec_at, suspend_rec_at};
 ghost use Rattle.crsm_base.specs.Spelling.{FitsBallot, FitsEntry, decision_bytes, entries_bytes, members_bytes, spec_bytes};
 ghost use Rattle.crsm_base.specs.declared.Rec.{Rec};
@@ -64,13 +65,13 @@ impl Ledger {
         }
     }
 
-    #[tactic(auto, unfolding(crsm_base::specs::RecordReading::boot_at))]
     fn take_boot<'a>(&mut self, bytes: &'a [u8]) -> Option<&'a [u8]>
         ensures { MatchOption result (self.new ≡ self.old) (λ rest. IsTaken (boot_at bytes.now) rest.now self.old self.new) }
     {
-        let (me, rest) = take_replica(bytes)?;
-        let (n, rest) = take_u8(rest)?;
-        if !self.fits_boot(me, u32::from(n)) {
+        let Some((me, n, rest)) = boot_numbers(bytes) else {
+            return None;
+        };
+        if !self.fits_boot(me, n) {
             return None;
         }
         self.follow_boot();
@@ -85,6 +86,7 @@ impl Ledger {
             return Ok(None);
         };
         if !self.fits_prepare(&entry) {
+            drop(entry);
             return Ok(None);
         }
         self.follow_prepare(entry)?;
@@ -174,6 +176,7 @@ impl Ledger {
             return Ok(None);
         };
         if !self.fits_accept(instance, ballot, &decision) {
+            drop(decision);
             return Ok(None);
         }
         self.follow_accept(ballot, decision);
@@ -284,6 +287,16 @@ impl Ledger {
             self.follow_decide(decision);
         }
     }
+}
+
+/// Returns the numbers that a boot names, of its replica and of the replicas at first, and the bytes after them.
+#[tactic(auto, unfolding(crsm_base::specs::RecordReading::boot_at))]
+fn boot_numbers(bytes: &[u8]) -> Option<(u32, u32, &[u8])>
+    ensures { option_map (λ b. (Rec.Boot b.0 b.1, b.2.now)) result ≡ boot_at bytes.now }
+{
+    let (me, rest) = take_replica(bytes)?;
+    let (n, rest) = take_u8(rest)?;
+    Some((me, u32::from(n), rest))
 }
 
 /// Returns the bytes after the prefix `first`, or `None` if the bytes do not begin with it.

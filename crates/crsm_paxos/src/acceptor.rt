@@ -33,7 +33,7 @@ pub enum Accepted {
 
 /// The promise of one replica in an instance, and the decision that it accepted. No call allocates. A library type: a
 /// replica reads its own promise from its log (`crsm_replica_reconfigure`, promising).
-#[derive(Debug, Drop)]
+#[derive(Drop)]
 pub struct Acceptor {
     promised: Ballot,
     accepted: Option<(Ballot, Decision)>,

@@ -14,7 +14,7 @@ use std::alloc::Global;
 use std::marker::Model;
 
 /// The next step of a proposer.
-#[derive(Debug, Drop)]
+#[derive(Drop)]
 pub enum Next {
     /// This answer makes no majority, or it does not count.
     Wait,
@@ -27,7 +27,7 @@ pub enum Next {
 }
 
 /// The accepted decision with the greatest ballot among the promises, and the replica that reported it.
-#[derive(Debug, Drop)]
+#[derive(Drop)]
 pub(crate) struct Best {
     pub(crate) ballot: Ballot,
     pub(crate) replica: u32,

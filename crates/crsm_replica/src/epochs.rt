@@ -1,11 +1,14 @@
 //! The changes of epochs, and the coordinator of the next one.
 
-ghost use Rattle.std.specs.Prelude.{ℕ};
+ghost use Rattle.std.specs.Prelude.{◌≡◌, ◌∷◌, ℕ, false, true};
 ghost use Rattle.crsm_base.specs.Spelling.{FitsDecision};
 ghost use Rattle.crsm_ledger.specs.Ledger.{LedgerStands};
 ghost use Rattle.crsm_replica_coordinator.specs.Coordinator.{CoordinatorStands};
-ghost use Rattle.crsm_spec.specs.Log.{Log, decision};
-ghost use Rattle.crsm_spec.specs.Replica.{Coordinator};
+ghost use Rattle.crsm_replica_epoch.specs.EpochState.{EpochStands, EachFits, forgotten};
+ghost use Rattle.crsm_spec.specs.Fits.{fits};
+ghost use Rattle.crsm_spec.specs.Log.{Log, active, decision, known};
+ghost use Rattle.crsm_spec.specs.Replica.{Coordinator, Replica};
+ghost use Rattle.crsm_spec.specs.Types.{Rec as RecOnPaper};
 ghost use Rattle.crsm_spec.specs.Draft.{Draft, noting};
 ghost use Rattle.crsm_spec.specs.Coordinate.{enter};
 ghost use Rattle.crsm_replica.specs.Replica.{ReplicaStands, AwaitsBoot, Makes, MakesFitting, learnt, WhereStands};
@@ -16,6 +19,8 @@ use crsm_base::{Decision, NoMemory, Rec};
 use crsm_ledger::Ledger;
 use crsm_replica_coordinator::Coordinator as CoordinatorInMemory;
 use crsm_replica_epoch::EpochState;
+use std::alloc::Global;
+use std::mem;
 
 impl ReplicaState {
     #[tactic(auto, unfolding(crate::specs::Replica::ReplicaStands))]
@@ -32,8 +37,8 @@ impl ReplicaState {
         if !fit {
             return Ok(false);
         }
-        self.epoch_state = EpochState::new(self.alloc);
-        self.coordinator = CoordinatorInMemory::quiet();
+        forget(self.alloc, &mut self.epoch_state);
+        drop(mem::replace(&mut self.coordinator, CoordinatorInMemory::quiet()));
         Ok(true)
     }
 
@@ -48,7 +53,7 @@ impl ReplicaState {
         if !fit {
             return Ok(());
         }
-        self.epoch_state = EpochState::new(self.alloc);
+        forget(self.alloc, &mut self.epoch_state);
         Ok(())
     }
 
@@ -65,7 +70,7 @@ impl ReplicaState {
     pub fn set_coordinator(&mut self, coordinator: CoordinatorInMemory)
         ensures { (x : Draft) (m : Coordinator) → ReplicaStands self.old x → CoordinatorStands coordinator x.replica.me x.replica.n (decision x.replica.log) m → ReplicaStands self.new (noting m x) }
     {
-        self.coordinator = coordinator;
+        drop(mem::replace(&mut self.coordinator, coordinator));
     }
 
     #[tactic(auto, unfolding(crate::specs::Replica::ReplicaStands))]
@@ -74,7 +79,7 @@ impl ReplicaState {
         ensures coordinator { WhereStands self.old (λ x. CoordinatorStands result x.replica.me x.replica.n (decision x.replica.log) x.replica.coordinator) }
         ensures quiet { WhereStands self.old (λ x. ReplicaStands self.new (noting Coordinator.Idle x)) }
     {
-        std::mem::replace(&mut self.coordinator, CoordinatorInMemory::quiet())
+        mem::replace(&mut self.coordinator, CoordinatorInMemory::quiet())
     }
 
     #[tactic(auto, unfolding(crate::specs::Replica::ReplicaStands, crate::specs::Replica::AwaitsBoot))]
@@ -85,4 +90,13 @@ impl ReplicaState {
     {
         &self.ledger
     }
+}
+
+/// Replaces the state of an epoch by that at the beginning of one.
+pub(crate) fn forget(alloc: Global, epoch_state: &mut EpochState)
+    ensures inactive { (r : Replica) → EachFits r.me r.n r.log → active r.log ≡ false → EpochStands epoch_state.new (forgotten r) }
+    ensures entered { (r : Replica) → EachFits r.me r.n r.log → fits r.me r.n r.log (RecOnPaper.Enter (known r.log)) ≡ true →
+        EpochStands epoch_state.new (record (forgotten r) { log = RecOnPaper.Enter (known r.log) ∷ r.log }) }
+{
+    drop(mem::replace(epoch_state, EpochState::new(alloc)));
 }

@@ -14,11 +14,20 @@ use crate::state::ReplicaState;
 use crsm_base::{Datagram, InEpoch, NoMemory, Stamp};
 
 impl ReplicaState {
-    #[tactic(auto, unfolding(crate::specs::Replica::ReplicaStands))]
     /// Issues `time`, which the clock would issue at some reading, and pushes a payload to the other members.
     /// `NoMemory` if memory runs out.
     pub fn push_at(&mut self, time: u64, payload: InEpoch) -> Result<(), NoMemory>
         ensures { IfOk result (λ _. (x : Draft) (reading : ℕ) → ReplicaStands self.old x → FitsPayload payload → would x reading ≡ Some time → ReplicaStands self.new (push_to_members payload (issued_at time x))) }
+    {
+        let pushed = self.push_copies(time, &payload);
+        drop(payload);
+        pushed
+    }
+
+    #[tactic(auto, unfolding(crate::specs::Replica::ReplicaStands))]
+    /// Issues `time` and pushes copies of a payload.
+    fn push_copies(&mut self, time: u64, payload: &InEpoch) -> Result<(), NoMemory>
+        ensures { IfOk result (λ _. (x : Draft) (reading : ℕ) → ReplicaStands self.old x → FitsPayload payload.now → would x reading ≡ Some time → ReplicaStands self.new (push_to_members payload.now (issued_at time x))) }
     {
         let number = self.me();
         send_next(
@@ -28,10 +37,10 @@ impl ReplicaState {
             number,
             self.ledger.known().epoch,
             self.ledger.known().members.as_slice(),
-            &payload,
+            payload,
         )?;
         self.epoch_state
-            .push_at(time, number, &self.ledger.known().members, &payload)?;
+            .push_at(time, number, &self.ledger.known().members, payload)?;
         Ok(())
     }
 

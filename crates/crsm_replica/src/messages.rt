@@ -50,6 +50,17 @@ impl ReplicaState {
         Ok(())
     }
 
+    /// Sends replica `k` a control message that is not needed any more.
+    fn tell(&mut self, k: u32, control: Control) -> Result<(), NoMemory>
+        requires to { k < 15 }
+        requires spelt { FitsControl control }
+        ensures { Makes (λ x. send_control control x k) self.old result self.new }
+    {
+        let sent = self.send_control(k, &control);
+        drop(control);
+        sent
+    }
+
     /// Sends a control message to each of these replicas; it is encoded once. `NoMemory` if memory runs out.
     pub fn send_to_each(&mut self, replicas: &[u32], control: &Control) -> Result<(), NoMemory>
         requires to { All (λ k. k < 15) replicas.now }
@@ -101,7 +112,7 @@ impl ReplicaState {
     {
         let known = self.ledger.known().epoch;
         let from = self.ledger.executed_len();
-        self.send_control(k, &Control::Retrieve { known, from })?;
+        self.tell(k, Control::Retrieve { known, from })?;
         Ok(())
     }
 }

@@ -24,10 +24,18 @@ impl ReplicaState {
         ensures { MakesFitting (keep rec) self.old result self.new }
     {
         let last = self.ledger.last_stamp();
-        let Some(lines) = apply(&mut self.ledger, &rec)? else {
+        let Ok(applied) = apply(&mut self.ledger, &rec) else {
+            drop(rec);
+            return Err(NoMemory);
+        };
+        let Some(lines) = applied else {
+            drop(rec);
             return Ok(false);
         };
-        self.epoch_state.keep(&rec, last)?;
+        let Ok(()) = self.epoch_state.keep(&rec, last) else {
+            drop(rec);
+            return Err(NoMemory);
+        };
         self.output.keep(rec, lines)?;
         Ok(true)
     }
@@ -55,9 +63,18 @@ pub fn put(ledger: &mut Ledger, output: &mut Output, rec: Rec) -> Result<bool, N
     ensures kept { WhereBothStand ledger.old output.old (λ me n log m. IfOk result (λ fit. (fit ≡ fits me n log rec) × Recorded fit me n log rec m ledger.new output.new)) }
     ensures unchanged { IfOk result (λ fit. fit ≡ false → (ledger.new ≡ ledger.old) × (output.new ≡ output.old)) }
 {
-    let Some(lines) = apply(ledger, &rec)? else {
-        return Ok(false);
-    };
-    output.keep(rec, lines)?;
-    Ok(true)
+    match apply(ledger, &rec) {
+        Ok(Some(lines)) => {
+            output.keep(rec, lines)?;
+            Ok(true)
+        }
+        Ok(None) => {
+            drop(rec);
+            Ok(false)
+        }
+        Err(NoMemory) => {
+            drop(rec);
+            Err(NoMemory)
+        }
+    }
 }

@@ -68,15 +68,18 @@ impl ReplicaState {
         ensures { IfOk result (λ _. WhereStands self.old (λ x. FitsWaiting (on_paper client) →
             ReplicaStands self.new (answer_found (on_paper client) (find_executed (executed x.replica.log) client.entry) x))) }
     {
-        let found = answer_to(
+        let Ok(found) = answer_to(
             self.alloc,
             &self.ledger,
             self.output.lines(),
             executions,
             &client.entry,
-        )?;
+        ) else {
+            drop(client);
+            return Err(NoMemory);
+        };
         match found {
-            Some((place, answer)) => self.reply_ok(&client, place, answer)?,
+            Some((place, answer)) => self.end_answered(client, place, answer)?,
             None => self.drop_or_wait(client)?,
         }
         Ok(())
@@ -87,11 +90,29 @@ impl ReplicaState {
         ensures { IfOk result (λ _. WhereStands self.old (λ x. FitsWaiting (on_paper client) → ReplicaStands self.new (answer_found (on_paper client) None x))) }
     {
         if has_dropped(&self.ledger, &client.entry) {
-            self.reply_dropped(&client)?;
+            self.end_dropped(client)?;
         } else {
             self.waiting.push(client)?;
         }
         Ok(())
+    }
+
+    /// Ends a client's wait by the answer to the executed entry with this index.
+    fn end_answered(&mut self, client: Waiting, place: u64, answer: Answer) -> Result<(), NoMemory>
+        ensures { IfOk result (λ _. WhereStands self.old (λ x. FitsWaiting (on_paper client) → FitsAnswer answer → ReplicaStands self.new (reply_ok (on_paper client) place answer x))) }
+    {
+        let told = self.reply_ok(&client, place, answer);
+        drop(client);
+        told
+    }
+
+    /// Ends a client's wait by the message that its entry will never be executed.
+    fn end_dropped(&mut self, client: Waiting) -> Result<(), NoMemory>
+        ensures { IfOk result (λ _. WhereStands self.old (λ x. FitsWaiting (on_paper client) → ReplicaStands self.new (reply_dropped (on_paper client) x))) }
+    {
+        let told = self.reply_dropped(&client);
+        drop(client);
+        told
     }
 
     /// Sends a client the answer to the executed entry with this index.

@@ -13,6 +13,7 @@ ghost use Rattle.crsm_spec.specs.Draft.{Draft, begun};
 ghost use Rattle.crsm_spec.specs.Step.{boot, boot_again};
 ghost use Rattle.crsm_replica.specs.Replica.{ReplicaStands, AwaitsBoot, CanBoot, WhereStands};
 
+use crate::epochs::forget;
 use crate::gathered::Gathered;
 use crate::records::put;
 use crate::state::ReplicaState;
@@ -31,12 +32,16 @@ impl ReplicaState {
     {
         let alloc = ledger.alloc();
         let me = ledger.me();
+        let Ok(gathered) = Gathered::new(alloc) else {
+            drop(ledger);
+            return Err(NoMemory);
+        };
         Ok(ReplicaState {
             alloc,
             me,
             ledger,
             epoch_state: EpochState::new(alloc),
-            gathered: Gathered::new(alloc)?,
+            gathered,
             coordinator: Coordinator::quiet(),
             made: 0,
             waiting: Vec::new(alloc),
@@ -82,7 +87,7 @@ impl ReplicaState {
             // The log can count one more boot.
             unreachable!();
         }
-        self.epoch_state = EpochState::new(self.alloc);
+        forget(self.alloc, &mut self.epoch_state);
         Ok(())
     }
 }

@@ -12,6 +12,11 @@ impl ReplicaState {
     pub fn into_ledger(self) -> Ledger
         ensures { WhereStands self (λ x. LedgerStands x.replica.me x.replica.n result x.replica.log) }
     {
+        drop(self.epoch_state);
+        drop(self.gathered);
+        drop(self.coordinator);
+        drop(self.waiting);
+        drop(self.output);
         self.ledger
     }
 }

@@ -47,7 +47,11 @@ impl Coordinator {
         let size = spec.count();
         let mut proposer = Proposer::start(alloc, own, above, me, size);
         let ballot = proposer.ballot();
-        proposer.on_p1b(me, ballot, accepted)?;
+        let Ok(next) = proposer.on_p1b(me, ballot, accepted) else {
+            drop(proposer);
+            return Err(NoMemory);
+        };
+        drop(next);
         Ok(Coordinator::Proposing(proposer))
     }
 
@@ -64,10 +68,17 @@ impl Coordinator {
         match self {
             Coordinator::Proposing(mut proposer) => {
                 let ballot = proposer.ballot();
-                proposer.on_p1b(k, ballot, accepted)?;
+                let Ok(next) = proposer.on_p1b(k, ballot, accepted) else {
+                    drop(proposer);
+                    return Err(NoMemory);
+                };
+                drop(next);
                 Ok(Coordinator::Proposing(proposer))
             }
-            other => Ok(other),
+            other => {
+                drop(accepted);
+                Ok(other)
+            }
         }
     }
 
@@ -82,7 +93,11 @@ impl Coordinator {
                     return Ok(Voted::Chosen(proposer.into_value()));
                 }
                 let ballot = proposer.ballot();
-                proposer.on_p2b(k, ballot)?;
+                let Ok(next) = proposer.on_p2b(k, ballot) else {
+                    drop(proposer);
+                    return Err(NoMemory);
+                };
+                drop(next);
                 Ok(Voted::More(Coordinator::Proposing(proposer)))
             }
             other => Ok(Voted::More(other)),

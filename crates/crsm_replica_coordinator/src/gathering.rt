@@ -29,7 +29,10 @@ impl Coordinator {
     {
         match self {
             Coordinator::Collecting(collect) => Some(collect),
-            _ => None,
+            other => {
+                drop(other);
+                None
+            }
         }
     }
 

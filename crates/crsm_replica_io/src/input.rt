@@ -7,7 +7,7 @@ use crsm_base::Members;
 use crsm_port::{Port, Recv};
 
 /// The input that the next step is to take.
-#[derive(Debug, Drop)]
+#[derive(Drop)]
 pub enum WantedInput {
     /// The next datagram of the port, or a tick if none has arrived.
     Receive,
@@ -17,7 +17,7 @@ pub enum WantedInput {
 }
 
 /// The input that a step took.
-#[derive(Debug, Drop)]
+#[derive(Drop)]
 pub enum ReceivedInput {
     /// `len` bytes from an address, IPv4 x 65,536 + port: the prefix of the buffer. They need not be the encoding of a
     /// datagram.

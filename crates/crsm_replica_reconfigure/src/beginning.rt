@@ -56,14 +56,21 @@ pub fn begin_proposing(
     states_are_sound();
     let top = greater(state.promised(), seen);
     if top.round == u64::MAX {
+        drop(own);
         state.set_coordinator(Coordinator::quiet());
         return Ok(());
     }
-    let is_alone = is_alone(state)?;
+    let Ok(is_alone) = is_alone(state) else {
+        drop(own);
+        return Err(NoMemory);
+    };
     let instance = own.epoch;
     let coordinator = asking(state, own, top)?;
     let ballot = above(top, state.me());
-    promise(state, instance, ballot)?;
+    let Ok(_) = promise(state, instance, ballot) else {
+        drop(coordinator);
+        return Err(NoMemory);
+    };
     state.set_coordinator(coordinator);
     if is_alone {
         accept_and_send(state)?;

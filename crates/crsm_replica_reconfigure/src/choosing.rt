@@ -10,6 +10,7 @@ ghost use Rattle.crsm_replica.specs.Replica.{Makes, MakesFitting};
 ghost use Rattle.crsm_replica_reconfigure.specs.Stages.{others_of_both};
 
 use crate::learning::learn;
+use crate::telling::tell_each;
 use crsm_base::{Control, Decision, MAX_REPLICAS, Members, NoMemory, first_replicas, is_among};
 use crsm_replica::ReplicaState;
 use std::alloc::Global;
@@ -45,7 +46,7 @@ fn send_both(
     let replicas = both_specs(state.alloc(), old, new, me)?;
     let decision = decision.copy(state.alloc())?;
     let control = Control::Decide { decision };
-    state.send_to_each(&replicas, &control)?;
+    tell_each(state, &replicas, control)?;
     Ok(())
 }
 

@@ -15,6 +15,7 @@ ghost use Rattle.crsm_replica_reconfigure.specs.Rules.{FollowsWhere};
 ghost use Rattle.crsm_replica_reconfigure.specs.Stages.{WhereCollecting, WhereGathering};
 
 use crate::beginning::begin_proposing;
+use crate::telling::tell;
 use crsm_base::{Ballot, Control, NoMemory};
 use crsm_replica::{ReplicaState, states_are_sound};
 use crsm_replica_coordinator::{Coordinator, Stage};
@@ -40,9 +41,13 @@ pub fn on_suspend_ok(state: &mut ReplicaState, k: u32, answer: &Control) -> Resu
     let answer = answer.copy(state.alloc())?;
     let coordinator = state.take_coordinator();
     let Some(mut collect) = coordinator.into_collect() else {
+        drop(answer);
         return Ok(());
     };
-    let got = collect.take(k, answer)?;
+    let Ok(got) = collect.take(k, answer) else {
+        drop(collect);
+        return Err(NoMemory);
+    };
     go_on(state, k, collect, got)?;
     Ok(())
 }
@@ -74,10 +79,12 @@ pub(crate) fn go_on(
             Ok(())
         }
         PageOutcome::Complete(decision) => {
+            drop(collect);
             begin_proposing(state, decision, NO_BALLOT)?;
             Ok(())
         }
         PageOutcome::TooMany { count, bytes } => {
+            drop(collect);
             state.refuse_collection(count, bytes)?;
             state.set_coordinator(Coordinator::quiet());
             Ok(())
@@ -118,7 +125,7 @@ fn ask_page(state: &mut ReplicaState, k: u32) -> Result<(), NoMemory>
     let epoch = state.known();
     let after = state.coordinator().cursor(k);
     let control = Control::Suspend { epoch, after };
-    state.send_control(k, &control)?;
+    tell(state, k, control)?;
     Ok(())
 }
 

@@ -77,16 +77,25 @@ pub fn count_vote(state: &mut ReplicaState, k: u32) -> Result<bool, NoMemory>
         let Some((_, value)) = found else {
             return Ok(false);
         };
-        let fits = choose(state, &value)?;
+        let Ok(fits) = choose(state, &value) else {
+            drop(value);
+            return Err(NoMemory);
+        };
+        drop(value);
         return Ok(fits);
     }
     let coordinator = state.take_coordinator();
     let voted = coordinator.with_vote(k)?;
-    let Voted::More(coordinator) = voted else {
-        return Ok(false);
-    };
-    state.set_coordinator(coordinator);
-    Ok(true)
+    match voted {
+        Voted::More(coordinator) => {
+            state.set_coordinator(coordinator);
+            Ok(true)
+        }
+        chosen => {
+            drop(chosen);
+            Ok(false)
+        }
+    }
 }
 
 /// Returns whether replica `k` counts, and the instance is the next one.

@@ -55,6 +55,7 @@ fn would_accept(state: &ReplicaState, ballot: Ballot, value: &Decision) -> Resul
         decision,
     };
     let fits = state.ledger().fits(&rec);
+    drop(rec);
     Ok(fits)
 }
 
@@ -64,5 +65,6 @@ fn would_decide(state: &ReplicaState, value: &Decision) -> Result<bool, NoMemory
     let decision = value.copy(state.alloc())?;
     let rec = Rec::Decide { decision };
     let fits = state.ledger().fits(&rec);
+    drop(rec);
     Ok(fits)
 }

@@ -18,6 +18,7 @@ mod renewing;
 mod sending;
 mod suspending;
 mod tails;
+mod telling;
 mod ticks;
 
 pub use answering::on_p1b;

@@ -11,6 +11,7 @@ ghost use Rattle.crsm_replica_reconfigure.specs.Rules.{Follows, FollowsWhere, on
 
 use crate::learning::{adopt, advance};
 use crate::tails::rest_goes_on;
+use crate::telling::tell;
 use crsm_base::{Control, Entries, NoMemory};
 use crsm_replica::{ReplicaState, states_are_sound};
 use crsm_transfer::{Fit, fit, page};
@@ -44,7 +45,7 @@ fn send_page(state: &mut ReplicaState, k: u32, from: u64) -> Result<(), NoMemory
     let Some(control) = found else {
         return Ok(());
     };
-    state.send_control(k, &control)?;
+    tell(state, k, control)?;
     Ok(())
 }
 

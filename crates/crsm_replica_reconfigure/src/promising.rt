@@ -10,6 +10,7 @@ ghost use Rattle.crsm_spec.specs.Controls.{send_promise, on_p1a, on_p2a};
 ghost use Rattle.crsm_replica.specs.Replica.{ReplicaStands, Makes, MakesFitting};
 ghost use Rattle.crsm_replica_reconfigure.specs.Rules.{Follows, IsNextOr};
 
+use crate::telling::tell;
 use crsm_base::{Ballot, Control, Decision, NoMemory, Rec, ballot_precedes, is_same_ballot};
 use crsm_replica::{ReplicaState, states_are_sound};
 
@@ -157,7 +158,7 @@ fn send_promise(
         ballot,
         accepted,
     };
-    state.send_control(k, &control)?;
+    tell(state, k, control)?;
     Ok(())
 }
 
@@ -179,7 +180,7 @@ fn refuse(
         ballot,
         promised,
     };
-    state.send_control(k, &control)?;
+    tell(state, k, control)?;
     Ok(())
 }
 
@@ -190,6 +191,6 @@ fn vote(state: &mut ReplicaState, k: u32, instance: u64, ballot: Ballot) -> Resu
     ensures { Makes (λ x. send_control (ControlOnPaper.P2b instance ballot) x k) state.old result state.new }
 {
     let control = Control::P2b { instance, ballot };
-    state.send_control(k, &control)?;
+    tell(state, k, control)?;
     Ok(())
 }

@@ -24,15 +24,21 @@ pub fn accept_own(state: &mut ReplicaState) -> Result<(), NoMemory>
     };
     let top = state.promised();
     if ballot_precedes(ballot, top) {
+        drop(value);
         let coordinator = state.take_coordinator();
         state.set_coordinator(coordinator.preempted(top));
         return Ok(());
     }
     let is_due = is_due(state, ballot, &value);
     if !is_due {
+        drop(value);
         return Ok(());
     }
-    accept(state, value.epoch, ballot, &value)?;
+    let Ok(_) = accept(state, value.epoch, ballot, &value) else {
+        drop(value);
+        return Err(NoMemory);
+    };
+    drop(value);
     let me = state.me();
     count_vote(state, me)?;
     Ok(())

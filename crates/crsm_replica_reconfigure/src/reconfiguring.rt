@@ -16,6 +16,7 @@ ghost use Rattle.crsm_replica_reconfigure.specs.Rules.{Follows, BeginsAlike};
 use crate::beginning::may_begin;
 use crate::collecting::{NO_BALLOT, go_on};
 use crate::suspending::suspend_once;
+use crate::telling::tell_all;
 use crsm_base::{Control, Members, NoMemory, are_among, can_be_members, first_replicas};
 use crsm_replica::{ReplicaState, states_are_sound};
 use crsm_suspend::{Collect, PageOutcome, got_is_by_the_rules};
@@ -34,13 +35,22 @@ pub fn on_suspect(state: &mut ReplicaState, members: &Members) -> Result<(), NoM
         return Ok(());
     };
     let me = state.me();
-    let got = collect.take_own(me, state.ledger())?;
-    let fits = may_go_on(state, &got)?;
+    let Ok(got) = collect.take_own(me, state.ledger()) else {
+        drop(collect);
+        return Err(NoMemory);
+    };
+    let Ok(fits) = may_go_on(state, &got) else {
+        drop((collect, got));
+        return Err(NoMemory);
+    };
     if !fits {
+        drop((collect, got));
         return Ok(());
     }
-    suspend_once(state)?;
-    send_suspend(state)?;
+    let Ok(()) = suspend_all(state) else {
+        drop((collect, got));
+        return Err(NoMemory);
+    };
     go_on(state, me, collect, got)?;
     Ok(())
 }
@@ -124,12 +134,22 @@ fn may_go_on(state: &ReplicaState, got: &PageOutcome) -> Result<bool, NoMemory>
     }
 }
 
+/// Suspends this replica, and asks each other counted replica for its frozen log.
+fn suspend_all(state: &mut ReplicaState) -> Result<(), NoMemory>
+    ensures { Makes (λ x. send_to_all (ControlOnPaper.Suspend (known (coordinate.suspend_once x).replica.log) None) (coordinate.suspend_once x)) state.old result state.new }
+{
+    states_are_sound();
+    suspend_once(state)?;
+    send_suspend(state)?;
+    Ok(())
+}
+
 /// Asks each other counted replica for its frozen log.
 fn send_suspend(state: &mut ReplicaState) -> Result<(), NoMemory>
     ensures { Makes (λ x. send_to_all (ControlOnPaper.Suspend (known x.replica.log) None) x) state.old result state.new }
 {
     let epoch = state.known();
     let control = Control::Suspend { epoch, after: None };
-    state.send_to_all(&control)?;
+    tell_all(state, control)?;
     Ok(())
 }

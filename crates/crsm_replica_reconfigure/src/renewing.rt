@@ -30,7 +30,11 @@ pub fn renew_proposal(state: &mut ReplicaState) -> Result<bool, NoMemory>
     };
     let me = state.me();
     let is_chosen = state.coordinator().is_last_vote(me);
-    let fits = fits_own(state, ballot, &value, is_chosen)?;
+    let Ok(fits) = fits_own(state, ballot, &value, is_chosen) else {
+        drop(value);
+        return Err(NoMemory);
+    };
+    drop(value);
     if !fits {
         return Ok(false);
     }

@@ -9,6 +9,7 @@ ghost use Rattle.crsm_replica.specs.Replica.{ReplicaStands, Makes};
 ghost use Rattle.crsm_replica_coordinator.specs.Coordinator.{WhereStands as WhereCoordinates};
 ghost use Rattle.crsm_replica_reconfigure.specs.Stages.{WherePreparing, round_of};
 
+use crate::telling::{tell_all, tell_each};
 use crsm_base::{Ballot, Control, Decision, NoMemory};
 use crsm_replica::{ReplicaState, states_are_sound};
 use crsm_replica_coordinator::Coordinator;
@@ -24,7 +25,7 @@ pub fn send_ask(state: &mut ReplicaState) -> Result<(), NoMemory>
     let others = state.others()?;
     let missing = state.coordinator().missing(state.alloc(), &others)?;
     let control = Control::P1a { instance, ballot };
-    state.send_to_each(&missing, &control)?;
+    tell_each(state, &missing, control)?;
     Ok(())
 }
 
@@ -48,7 +49,7 @@ pub fn send_proposal(state: &mut ReplicaState) -> Result<(), NoMemory>
         ballot,
         decision,
     };
-    state.send_to_each(&missing, &control)?;
+    tell_each(state, &missing, control)?;
     Ok(())
 }
 
@@ -65,7 +66,7 @@ pub fn ask_all(state: &mut ReplicaState) -> Result<(), NoMemory>
     let known = state.known();
     let from = state.executed_len();
     let control = Control::Retrieve { known, from };
-    state.send_to_all(&control)?;
+    tell_all(state, control)?;
     Ok(())
 }
 

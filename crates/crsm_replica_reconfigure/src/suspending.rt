@@ -9,6 +9,7 @@ ghost use Rattle.crsm_spec.specs.Coordinate.{suspend_once};
 ghost use Rattle.crsm_replica.specs.Replica.{Makes, MakesFitting};
 ghost use Rattle.crsm_replica_reconfigure.specs.Rules.{Follows};
 
+use crate::telling::tell;
 use crsm_base::{NoMemory, Rec, Stamp};
 use crsm_replica::{ReplicaState, states_are_sound};
 use crsm_suspend::page_of;
@@ -66,6 +67,6 @@ fn send_frozen(state: &mut ReplicaState, k: u32, after: Option<Stamp>) -> Result
     ensures { Makes (λ x. send_control (suspend_ok x.replica.log after) x k) state.old result state.new }
 {
     let control = page_of(state.alloc(), state.ledger(), after)?;
-    state.send_control(k, &control)?;
+    tell(state, k, control)?;
     Ok(())
 }

@@ -9,7 +9,7 @@ use std::alloc::Global;
 use std::marker::Model;
 
 /// The outcome of taking a part.
-#[derive(Debug, Drop)]
+#[derive(Drop)]
 pub enum PartOutcome {
     /// The part completes its message, which is this.
     Whole(Bytes),

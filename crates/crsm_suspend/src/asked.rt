@@ -49,8 +49,14 @@ fn copies_above(alloc: Global, ledger: &Ledger, floor: Option<Stamp>) -> Result<
 {
     let mut copies = Entries::new(alloc);
     for index in ledger.first_above(floor)..ledger.logged_len() {
-        let entry = ledger.logged_at(index)?;
-        copies.push(entry)?;
+        let Ok(entry) = ledger.logged_at(index) else {
+            drop(copies);
+            return Err(NoMemory);
+        };
+        let Ok(()) = copies.push(entry) else {
+            drop(copies);
+            return Err(NoMemory);
+        };
     }
     Ok(copies)
 }

@@ -13,7 +13,7 @@ ghost use Rattle.crsm_spec.specs.Log.{known, start as start_of};
 use crate::asked::{is_page, own_page};
 use crate::got::{PageOutcome, decided, more};
 use crate::report::{Page, Report, ReportHead};
-use crate::reports::{base_of, floor_of, union_of, whole_count};
+use crate::reports::{base_of, floor_of, tail_of, whole_count};
 use crsm_base::{Control, Decision, Members, MembersError, NoMemory, Stamp, majority};
 use crsm_ledger::Ledger;
 use std::alloc::Global;
@@ -122,6 +122,7 @@ impl Collection {
             entries,
         } = answer
         else {
+            drop(answer);
             return Ok(PageOutcome::Stranger);
         };
         let page = Page {
@@ -131,6 +132,7 @@ impl Collection {
             entries,
         };
         if !self.is_asked(from, epoch, after, &page) {
+            drop(page);
             return Ok(PageOutcome::Stranger);
         }
         self.add(from, page)
@@ -221,15 +223,21 @@ impl Collection {
         let spec = self.spec.as_slice();
         let base_len = base_of(self.start, &self.reports, spec);
         let floor = floor_of(base_len, &self.reports, spec);
-        let union = union_of(self.alloc, floor, &self.reports, spec)?;
-        let named = copy_of_option(self.alloc, &self.named)?;
-        let members = copy_of(self.alloc, &self.members)?;
+        let tail = tail_of(self.alloc, floor, &self.reports, spec)?;
+        let Ok(named) = copy_of_option(self.alloc, &self.named) else {
+            drop(tail);
+            return Err(NoMemory);
+        };
+        let Ok(members) = copy_of(self.alloc, &self.members) else {
+            drop((tail, named));
+            return Err(NoMemory);
+        };
         Ok(Decision {
             epoch: self.next,
             spec: named,
             members,
             base_len,
-            tail: union.into_entries()?,
+            tail,
         })
     }
 }

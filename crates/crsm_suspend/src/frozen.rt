@@ -56,12 +56,19 @@ fn page_above(
     let mut page = Entries::new(alloc);
     let mut room = MAX_PAGE_BYTES as u128;
     for index in ledger.first_above(floor)..ledger.logged_len() {
-        let entry = ledger.logged_at(index)?;
+        let Ok(entry) = ledger.logged_at(index) else {
+            drop(page);
+            return Err(NoMemory);
+        };
         let size = entry_size(&entry);
         if size > room {
+            drop(entry);
             return Ok((page, false));
         }
-        page.push(entry)?;
+        let Ok(()) = page.push(entry) else {
+            drop(page);
+            return Err(NoMemory);
+        };
         room -= size;
     }
     Ok((page, true))

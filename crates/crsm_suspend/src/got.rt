@@ -7,7 +7,7 @@ use crate::sizes::total_size;
 use crsm_base::{Decision, MAX_TAIL_BYTES, MAX_TAIL_ENTRIES, Stamp};
 
 /// The outcome of adding a page to a collection.
-#[derive(Debug, Drop)]
+#[derive(Drop)]
 pub enum PageOutcome {
     /// The page was not asked for, and nothing has changed.
     Stranger,
@@ -41,6 +41,7 @@ pub fn decided(decision: Decision) -> PageOutcome
     if is_within {
         PageOutcome::Complete(decision)
     } else {
+        drop(decision);
         PageOutcome::TooMany { count, bytes }
     }
 }

@@ -8,7 +8,7 @@ use std::alloc::Global;
 use std::marker::Model;
 
 /// The entries of pages, one list per page.
-#[derive(Debug, Drop)]
+#[derive(Drop)]
 pub struct Pages {
     items: Vec<Entries>,
 }

@@ -10,7 +10,7 @@ use std::alloc::Global;
 
 /// A page of a frozen log: its sender's executed length in entries, the stamp of the last executed entry of the epoch,
 /// whether it is the last page, and its entries.
-#[derive(Debug, Drop)]
+#[derive(Drop)]
 pub struct Page {
     pub executed: u64,
     pub last: Option<Stamp>,
@@ -19,7 +19,7 @@ pub struct Page {
 }
 
 /// The heading of a report: what its pages say besides their entries.
-#[derive(Clone, Copy, Debug)]
+#[derive(Clone, Copy)]
 pub struct ReportHead {
     /// The executed length that the first page names, in entries, and the stamp of the last executed entry.
     pub executed: u64,
@@ -31,7 +31,7 @@ pub struct ReportHead {
 }
 
 /// The pages received from one replica.
-#[derive(Debug, Drop)]
+#[derive(Drop)]
 pub struct Report {
     pub head: ReportHead,
     pub pages: Pages,

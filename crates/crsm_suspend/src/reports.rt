@@ -8,7 +8,7 @@ ghost use Rattle.crsm_suspend.specs.Reports.{ReportsStand};
 
 use crate::report::Report;
 use crate::union::Union;
-use crsm_base::{NoMemory, Stamp};
+use crsm_base::{Entries, NoMemory, Stamp};
 use std::alloc::Global;
 
 /// Returns the number of counted replicas whose reports are whole.
@@ -62,8 +62,24 @@ pub fn floor_of(base: u64, reports: &[Report; 15], spec: &[u32]) -> Option<Stamp
     None
 }
 
-/// Returns the union of the whole replicas' entries above a stamp, by ascending stamp. `NoMemory` if memory runs out.
-pub fn union_of(
+/// Returns the whole replicas' entries above a stamp, by ascending stamp, each once. `NoMemory` if memory runs out.
+pub fn tail_of(
+    alloc: Global,
+    floor: Option<Stamp>,
+    reports: &[Report; 15],
+    spec: &[u32],
+) -> Result<Entries, NoMemory>
+    requires { All (λ k. k < 15) spec.now }
+    ensures { (pages : List LogPage) → ReportsStand reports.now pages →
+        IfOk result (λ tail. tail ≡ union (above floor (all_entries (whole_ones spec.now pages) pages))) }
+{
+    let set = union_of(alloc, floor, reports, spec)?;
+    let tail = set.into_entries()?;
+    Ok(tail)
+}
+
+/// Returns the union of the whole replicas' entries above a stamp, by ascending stamp.
+fn union_of(
     alloc: Global,
     floor: Option<Stamp>,
     reports: &[Report; 15],
@@ -79,7 +95,10 @@ pub fn union_of(
         if !report.head.is_whole {
             continue;
         }
-        set.add_pages(floor, report.pages.as_slice())?;
+        let Ok(()) = set.add_pages(floor, report.pages.as_slice()) else {
+            drop(set);
+            return Err(NoMemory);
+        };
     }
     Ok(set)
 }

@@ -49,7 +49,7 @@ impl Union {
             return Ok(());
         }
         let copy = entry.copy(self.alloc)?;
-        self.entries.insert(entry.stamp, copy)?;
+        drop(self.entries.insert(entry.stamp, copy)?);
         Ok(())
     }
 
@@ -82,7 +82,10 @@ impl Union {
     {
         let mut entries = Entries::new(self.alloc);
         for entry in self.entries.into_values() {
-            entries.push(entry)?;
+            let Ok(()) = entries.push(entry) else {
+                drop(entries);
+                return Err(NoMemory);
+            };
         }
         Ok(entries)
     }

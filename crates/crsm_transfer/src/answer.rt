@@ -3,7 +3,7 @@
 use crsm_base::Entries;
 
 /// How a page of executed entries compares with a ledger.
-#[derive(Debug, Drop)]
+#[derive(Drop)]
 pub enum Fit {
     /// The sender of the page knows a later epoch.
     Ahead,

@@ -8,12 +8,12 @@ use Rattle.std.specs.Prelude.{◌==◌, ◌||◌, not, filter}
 use Rattle.crsm_replica.specs.Replica.{ReplicaStands}
 use Rattle.crsm_replica_reconfigure.proofs.choosing.send_both.Goals as goal
 
-pub send_to_each-requires-clause-spelt : goal.send_to_each-requires-clause-spelt
-send_to_each-requires-clause-spelt c = subst FitsDecision (sym c.in_ok-decision.ensures) c.requires
+pub tell_each-requires-clause-spelt : goal.tell_each-requires-clause-spelt
+tell_each-requires-clause-spelt c = subst FitsDecision (sym c.in_ok-decision.ensures) c.requires
 
 pub returns : goal.returns
 returns c = λ x s.
     let copy : c.in_ok-decision.decision ≡ c.args.decision.now = c.in_ok-decision.ensures in
-    let sent = c.in_ok-send_to_each.ensures x s in
-    subst (λ d. ReplicaStands c.send_to_each.new.self (send_to_each (filter (λ k. (has c.args.old.now k || has c.args.new.now k) && not (k == c.args.me)) (numbers_below 15)) (Control.Decide d) x)) copy
-    (subst (λ ks. ReplicaStands c.send_to_each.new.self (send_to_each ks (Control.Decide c.in_ok-decision.decision) x)) (c.deref.ensures.value ∙ c.in_ok-replicas.ensures.value) sent)
+    let sent = c.in_ok-tell_each.ensures x s in
+    subst (λ d. ReplicaStands c.tell_each.new.state (send_to_each (filter (λ k. (has c.args.old.now k || has c.args.new.now k) && not (k == c.args.me)) (numbers_below 15)) (Control.Decide d) x)) copy
+    (subst (λ ks. ReplicaStands c.tell_each.new.state (send_to_each ks (Control.Decide c.in_ok-decision.decision) x)) (c.deref.ensures.value ∙ c.in_ok-replicas.ensures.value) sent)

@@ -5,8 +5,8 @@ use Rattle.crsm_replica.specs.Replica.{ReplicaStands}
 use Rattle.crsm_replica_reconfigure.proofs.ReportLemmas.{ask_as}
 use Rattle.crsm_replica_reconfigure.proofs.collecting.ask_page.Goals as goal
 
-pub send_control-requires-clause-spelt : goal.send_control-requires-clause-spelt
-send_control-requires-clause-spelt c =
+pub tell-requires-clause-spelt : goal.tell-requires-clause-spelt
+tell-requires-clause-spelt c =
     let small : c.known-epoch.result < 2 ^ 64 = omega arith in
     (small, c.cursor-after.ensures.fits)
 
@@ -14,4 +14,4 @@ pub returns : goal.returns
 returns c = λ x ms pages s e.
     let stands = subst (λ m. CoordinatorStands c.coordinator.result.now x.replica.me x.replica.n (decision x.replica.log) m) e (c.coordinator.ensures x s) in
     let after = c.cursor-after.ensures.value x.replica.me x.replica.n x.replica.log ms pages stands in
-    subst (λ y. ReplicaStands c.send_control.new.self y) (ask_as pages x c.args.k c.known-epoch.result c.cursor-after.result (c.known-epoch.ensures x s) after) (c.in_ok-send_control.ensures x s)
+    subst (λ y. ReplicaStands c.tell.new.state y) (ask_as pages x c.args.k c.known-epoch.result c.cursor-after.result (c.known-epoch.ensures x s) after) (c.in_ok-tell.ensures x s)

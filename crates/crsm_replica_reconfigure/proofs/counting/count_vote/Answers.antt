@@ -27,16 +27,16 @@ returns-then-is_last c = λ x b own value acceptors s e h.
     let again = subst (λ z. CoordinatorStands c.coordinator-then-is_last.result.now x.replica.me x.replica.n (decision x.replica.log) z) e (c.coordinator-then-is_last.ensures x s) in
     let found : c.in_ok-found.found ≡ Some (b, value) = c.in_ok-found.ensures.value x.replica.me x.replica.n (decision x.replica.log) m again in
     let same : c.in-Some.value ≡ value = same_value c.in_ok-found.found c.in-Some.field-0-0 b c.in-Some.value value c.in-Some.is found in
-    let k = c.in_ok-fits.ensures x s in
+    let k = c.in-Ok.ensures x s in
     let rule : on_chosen c.in-Some.value x ≡ count_acceptor b own value acceptors c.args.k x = ap (λ d. on_chosen d x) same ∙ sym (vote_last b own value acceptors c.args.k x many) in
     (k.0 ∙ ap (λ y. y.fitting) rule, instead c.choose.new.state x _ _ rule k.1)
 
 pub choose-requires : goal.choose-requires
 choose-requires c = (subst (λ o. FitsOption FitsVote o) c.in-Some.is c.in_ok-found.ensures.fits).1
 
-pub returns : goal.returns
+pub returns-in-More : goal.returns-in-More
 unfolding noting
-returns c = λ x b own value acceptors s e h.
+returns-in-More c = λ x b own value acceptors s e h.
     let of_spec : has (spec_decided x.replica.n (decision x.replica.log)) c.args.k ≡ true = ap (λ ks. has ks c.args.k) (sym (spec_is x.replica)) ∙ h in
     let few = sym (c.is_last_vote-is_last.ensures x.replica.me x.replica.n (decision x.replica.log) b own value acceptors
     (subst (λ z. CoordinatorStands c.coordinator.result.now x.replica.me x.replica.n (decision x.replica.log) z) e (c.coordinator.ensures x s)) of_spec) ∙ c.if-is_last.false in

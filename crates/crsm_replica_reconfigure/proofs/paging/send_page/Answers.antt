@@ -16,12 +16,12 @@ returns-in_default c = λ x s.
     subst (λ y. ReplicaStands c.args.state.now y)
     (sym (page_gone c.args.k c.args.from x (sym c.in_default.is ∙ c.in_ok-found.ensures.value x.replica.me x.replica.n x.replica.log (c.ledger.ensures.stands x s) rise))) s
 
-pub send_control-requires-clause-spelt : goal.send_control-requires-clause-spelt
-send_control-requires-clause-spelt c = subst (λ (o : Option Control). IfSome o FitsControl) c.in-Some.is c.in_ok-found.ensures.fits
+pub tell-requires-clause-spelt : goal.tell-requires-clause-spelt
+tell-requires-clause-spelt c = subst (λ (o : Option Control). IfSome o FitsControl) c.in-Some.is c.in_ok-found.ensures.fits
 
 pub returns : goal.returns
 returns c = λ x s.
     let sound = c.states_are_sound.ensures c.args.state.now x s in
     let rise = executed_rises x.replica.me x.replica.n x.replica.log sound.kept sound.spelt in
     let p = page_there c.args.k c.args.from x c.in-Some.control (sym c.in-Some.is ∙ c.in_ok-found.ensures.value x.replica.me x.replica.n x.replica.log (c.ledger.ensures.stands x s) rise) in
-    subst (λ y. ReplicaStands c.send_control.new.self y) (ap (λ m. send_control m x c.args.k) p.0 ∙ sym p.1) (c.in_ok-send_control.ensures x s)
+    subst (λ y. ReplicaStands c.tell.new.state y) (ap (λ m. send_control m x c.args.k) p.0 ∙ sym p.1) (c.in_ok-tell.ensures x s)

@@ -8,4 +8,4 @@ use Rattle.crsm_replica_reconfigure.proofs.promising.send_promise.Goals as goal
 pub returns : goal.returns
 unfolding send_promise
 returns c = λ x s.
-    subst (λ o. ReplicaStands c.send_control.new.self (send_control (Control.P1b c.args.instance c.args.ballot o) x c.args.k)) (c.in_ok-accepted.ensures.value x s) (c.in_ok-send_control.ensures x s)
+    subst (λ o. ReplicaStands c.tell.new.state (send_control (Control.P1b c.args.instance c.args.ballot o) x c.args.k)) (c.in_ok-accepted.ensures.value x s) (c.in_ok-tell.ensures x s)

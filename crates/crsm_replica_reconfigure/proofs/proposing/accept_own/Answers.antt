@@ -80,7 +80,7 @@ returns c = λ x b own value acceptors s e f.
     let next : c.in-Some.value.epoch ≡ instance x = ap (λ (d : Decision). d.epoch) decided ∙ accepted_next x b value fit in
     let same : keep (Rec.Accept c.in-Some.value.epoch c.in-Some.ballot c.in-Some.value) x ≡ z =
     ap (λ i. keep (Rec.Accept i c.in-Some.ballot c.in-Some.value) x) next ∙ ap (λ q. keep (Rec.Accept (instance x) q c.in-Some.value) x) ballot ∙ ap (λ d. keep (Rec.Accept (instance x) b d) x) decided in
-    let kept = c.in_ok-accept.ensures x s in
+    let kept = c.in-Ok.ensures x s in
     let mid = subst (λ y. ReplicaStands c.accept.new.state y) same (was_whole c.accept.new.state x _ (ap (λ y. y.fitting) same ∙ fit) kept.1) in
     let me : c.me-me.result ≡ x.replica.me = c.me-me.ensures.value z mid ∙ kept_me (Rec.Accept (instance x) b value) x in
     let counted : has (spec_of z.replica) c.me-me.result ≡ true =

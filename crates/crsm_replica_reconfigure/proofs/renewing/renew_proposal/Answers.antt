@@ -34,7 +34,7 @@ returns-then-not-fits c = λ x b own value acceptors s e.
     let mine = proposing_mine x.replica.me x.replica.n known c.coordinator.result.now b own value acceptors stands in
     let last = c.is_last_vote-is_chosen.ensures x.replica.me x.replica.n known b own value acceptors again (subst (λ k. has (spec_decided x.replica.n known) k ≡ true) (sym me) mine.0.counted) in
     let chosen = last ∙ ap (λ k. has_majority (spec_decided x.replica.n known) (k ∷ acceptors)) me ∙ ap (λ ks. has_majority ks (x.replica.me ∷ acceptors)) (sym (spec_as x)) in
-    let fit = c.in_ok-fits.ensures x own acceptors s (subst (λ d. FitsDecision d) (sym decided) mine.2) chosen in
+    let fit = c.in-Ok.ensures x own acceptors s (subst (λ d. FitsDecision d) (sym decided) mine.2) chosen in
     let rule = ap (λ q. (accept_own q own c.in-Some.value acceptors x).fitting) ballot ∙ ap (λ d. (accept_own b own d acceptors x).fitting) decided ∙ sym (renewed_fitting b own value acceptors x) in
     let u = sym (sym c.if-not-fits.true ∙ fit ∙ rule) in
     (sym u, is_ignored c.args.state.now x _ u s)
@@ -53,7 +53,7 @@ returns c = λ x b own value acceptors s e.
     let mine = proposing_mine x.replica.me x.replica.n known c.coordinator.result.now b own value acceptors stands in
     let last = c.is_last_vote-is_chosen.ensures x.replica.me x.replica.n known b own value acceptors again (subst (λ k. has (spec_decided x.replica.n known) k ≡ true) (sym me) mine.0.counted) in
     let chosen = last ∙ ap (λ k. has_majority (spec_decided x.replica.n known) (k ∷ acceptors)) me ∙ ap (λ ks. has_majority ks (x.replica.me ∷ acceptors)) (sym (spec_as x)) in
-    let fit = c.in_ok-fits.ensures x own acceptors s (subst (λ d. FitsDecision d) (sym decided) mine.2) chosen in
+    let fit = c.in-Ok.ensures x own acceptors s (subst (λ d. FitsDecision d) (sym decided) mine.2) chosen in
     let rule = ap (λ q. (accept_own q own c.in-Some.value acceptors x).fitting) ballot ∙ ap (λ d. (accept_own b own d acceptors x).fitting) decided in
     let u : (accept_own b own value acceptors x).fitting ≡ true = sym (sym c.if-not-fits.false ∙ fit ∙ rule) in
     let whole = renewed_fitting b own value acceptors x ∙ u in

@@ -8,6 +8,6 @@ returns-then-is_active c = λ x s. subst (λ y. ReplicaStands c.args.state.now y
 
 pub returns : goal.returns
 returns c = λ x s.
-    subst (λ y. ReplicaStands c.send_to_all.new.self y)
+    subst (λ y. ReplicaStands c.tell_all.new.state y)
     (all_asked x c.known-known.result c.executed_len-from.result (sym (c.is_active-is_active.ensures x s) ∙ c.if-is_active.false) (c.known-known.ensures x s) (c.executed_len-from.ensures x s))
-    (c.in_ok-send_to_all.ensures x s)
+    (c.in_ok-tell_all.ensures x s)

@@ -17,8 +17,8 @@ returns-in_default c = λ x b own answers s e.
     let found : c.round_in-found.result ≡ Some (own.epoch, b) = c.round_in-found.ensures.value x.replica.me x.replica.n (decision x.replica.log) (Coordinator.Preparing b own answers) (subst (λ z. CoordinatorStands c.coordinator.result.now x.replica.me x.replica.n (decision x.replica.log) z) e (c.coordinator.ensures x s)) in
     absurd (none_proposed c.round_in-found.result (own.epoch, b) found c.in_default.is)
 
-pub send_to_each-requires-clause-spelt : goal.send_to_each-requires-clause-spelt
-send_to_each-requires-clause-spelt c =
+pub tell_each-requires-clause-spelt : goal.tell_each-requires-clause-spelt
+tell_each-requires-clause-spelt c =
     subst (FitsOption (λ (r : ℕ × Ballot). (r.0 < 2 ^ 64) × FitsBallot r.1)) c.in-Some.is c.round_in-found.ensures.fits
 
 pub returns : goal.returns
@@ -33,7 +33,7 @@ returns c = λ x b own answers s e.
     let own_is : c.in-Some.instance ≡ own.epoch = both.0 in
     let same : c.in-Some.ballot ≡ b = both.1 in
     let next = own_is ∙ own_next x x.replica.me x.replica.n own mine.0 in
-    let sent = c.in_ok-send_to_each.ensures x s in
-    subst (λ y. ReplicaStands c.send_to_each.new.self y)
+    let sent = c.in_ok-tell_each.ensures x s in
+    subst (λ y. ReplicaStands c.tell_each.new.state y)
     (ask_as b own answers x c.in-Some.ballot c.in-Some.instance c.deref.result.now c.deref-2.result.now same next (c.deref.ensures.value ∙ c.in_ok-others.ensures.value x s)
     (c.deref-2.ensures.value ∙ c.in_ok-missing.ensures.value x.replica.me x.replica.n (decision x.replica.log) m again)) sent

@@ -22,8 +22,8 @@ returns-in_default-found c = λ x s.
     let none : proposal_of x.replica.coordinator ≡ None = sym (c.in_ok-found.ensures.value x.replica.me x.replica.n (decision x.replica.log) x.replica.coordinator (c.coordinator-2.ensures x s)) ∙ c.in_default-found.is in
     subst (λ y. ReplicaStands c.args.state.now y) (sym (none_told x.replica.coordinator x none)) s
 
-pub send_to_each-requires-clause-spelt : goal.send_to_each-requires-clause-spelt
-send_to_each-requires-clause-spelt c =
+pub tell_each-requires-clause-spelt : goal.tell_each-requires-clause-spelt
+tell_each-requires-clause-spelt c =
     let round = subst (FitsOption (λ (r : ℕ × Ballot). (r.0 < 2 ^ 64) × FitsBallot r.1)) c.in-Some.is c.round_in-round.ensures.fits in
     let vote = subst (FitsOption FitsVote) c.in-Some-found.is c.in_ok-found.ensures.fits in
     (round.0, vote.0, vote.1)
@@ -39,8 +39,8 @@ returns c = λ x s.
     let own_is : c.in-Some.instance ≡ p.own.epoch = round_is c.in-Some-found.ballot p.own c.in-Some-found.decision p.acceptors c.in-Some.instance _
     (sym (c.round_in-round.ensures.value x.replica.me x.replica.n (decision x.replica.log) m stands) ∙ c.in-Some.is) in
     let next = own_is ∙ own_next x x.replica.me x.replica.n p.own mine.0 in
-    let sent = c.in_ok-send_to_each.ensures x s in
-    subst (λ y. ReplicaStands c.send_to_each.new.self y)
+    let sent = c.in_ok-tell_each.ensures x s in
+    subst (λ y. ReplicaStands c.tell_each.new.state y)
     (proposal_as c.in-Some-found.ballot p.own c.in-Some-found.decision p.acceptors x c.in-Some-found.ballot c.in-Some-found.decision c.in-Some.instance c.deref.result.now c.deref-2.result.now refl refl next
     (c.deref.ensures.value ∙ c.in_ok-others.ensures.value x s) (c.deref-2.ensures.value ∙ c.in_ok-missing.ensures.value x.replica.me x.replica.n (decision x.replica.log) m again)
     ∙ ap (λ n. send_proposal n x) (sym p.is)) sent

@@ -3,10 +3,10 @@ use Rattle.crsm_spec.specs.Draft.{send_control}
 use Rattle.crsm_replica.specs.Replica.{ReplicaStands}
 use Rattle.crsm_replica_reconfigure.proofs.suspending.send_frozen.Goals as goal
 
-pub send_control-requires-clause-spelt : goal.send_control-requires-clause-spelt
-send_control-requires-clause-spelt c = c.in_ok-control.ensures.fits c.requires.after
+pub tell-requires-clause-spelt : goal.tell-requires-clause-spelt
+tell-requires-clause-spelt c = c.in_ok-control.ensures.fits c.requires.after
 
 pub returns : goal.returns
 returns c = λ x s.
     let is = c.in_ok-control.ensures.value x.replica.me x.replica.n x.replica.log (c.ledger.ensures.stands x s) in
-    subst (λ m. ReplicaStands c.send_control.new.self (send_control m x c.args.k)) is (c.in_ok-send_control.ensures x s)
+    subst (λ m. ReplicaStands c.tell.new.state (send_control m x c.args.k)) is (c.in_ok-tell.ensures x s)

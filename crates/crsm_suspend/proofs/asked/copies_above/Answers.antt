@@ -21,14 +21,14 @@ pub loop-index-preserved : goal.loop-index-preserved
 loop-index-preserved c =
     let copies = c.loop-index.copies in
     let index = c.loop-index.index in
-    let entry = c.in_ok-entry.entry in (
+    let entry = c.in-Ok.entry in (
       λ all h.
-          ap (λ (es : List Entry). es ++ drop (index + 1) all) c.in_ok-push.ensures.ok
+          ap (λ (es : List Entry). es ++ drop (index + 1) all) c.in-Ok-push.ensures.ok
           ∙ append_assoc copies (entry ∷ []) (drop (index + 1) all)
-          ∙ ap (λ (es : List Entry). copies ++ es) (sym (left all index entry (c.in_ok-entry.ensures.holds all h)))
+          ∙ ap (λ (es : List Entry). copies ++ es) (sym (left all index entry (c.in-Ok.ensures.holds all h)))
           ∙ c.loop-index.invariant.0 all h,
-      subst (λ (es : List Entry). AllByRecursion FitsEntry es) (sym c.in_ok-push.ensures.ok)
-          (all-push FitsEntry copies entry c.loop-index.invariant.1 c.in_ok-entry.ensures.fit),
+      subst (λ (es : List Entry). AllByRecursion FitsEntry es) (sym c.in-Ok-push.ensures.ok)
+          (all-push FitsEntry copies entry c.loop-index.invariant.1 c.in-Ok.ensures.fit),
     )
 
 pub returns-clause-value : goal.returns-clause-value

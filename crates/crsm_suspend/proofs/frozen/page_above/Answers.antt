@@ -18,17 +18,17 @@ pub loop-index-preserved : goal.loop-index-preserved
 loop-index-preserved c = λ es h.
     let all = above c.args.floor es in
     let index = c.loop-index.index in
-    let entry = c.in_ok-entry.entry in
-    let so_far = subst (λ (rest : List Entry). IsPaging c.loop-index.page c.loop-index.room rest all) (left es index entry (c.in_ok-entry.ensures.holds es h)) (c.loop-index.invariant es h) in
+    let entry = c.in-Ok.entry in
+    let so_far = subst (λ (rest : List Entry). IsPaging c.loop-index.page c.loop-index.room rest all) (left es index entry (c.in-Ok.ensures.holds es h)) (c.loop-index.invariant es h) in
     goes_in c.loop-index.page all (drop (index + 1) es) c.loop-index.room entry so_far
-    c.push.new.self c.entry_size-size.result c.entry_size-size.ensures.value (omega (arith, c.if-size-room.false)) c.in_ok-push.ensures.ok
+    c.push.new.self c.entry_size-size.result c.entry_size-size.ensures.value (omega (arith, c.if-size-room.false)) c.in-Ok-push.ensures.ok
 
 pub returns-then-size-room-clause-value : goal.returns-then-size-room-clause-value
 returns-then-size-room-clause-value c = λ es h.
     let all = above c.args.floor es in
     let index = c.loop-index.index in
-    let entry = c.in_ok-entry.entry in
-    let so_far = subst (λ (rest : List Entry). IsPaging c.loop-index.page c.loop-index.room rest all) (left es index entry (c.in_ok-entry.ensures.holds es h)) (c.loop-index.invariant es h) in
+    let entry = c.in-Ok.entry in
+    let so_far = subst (λ (rest : List Entry). IsPaging c.loop-index.page c.loop-index.room rest all) (left es index entry (c.in-Ok.ensures.holds es h)) (c.loop-index.invariant es h) in
     is_full c.loop-index.page all (drop (index + 1) es) c.loop-index.room entry so_far
     c.entry_size-size.result c.entry_size-size.ensures.value (omega (arith, c.if-size-room.true))
 

@@ -28,6 +28,6 @@ loop-k-preserved c = λ pages h.
     let yes : is_whole pages (get_or c.args.spec.now c.loop-k.k-index 0) ≡ true = sym (whole_at pages (get_or c.args.spec.now c.loop-k.k-index 0) read report) ∙ c.if-not-report.false in
     let all : fold with_new c.loop-k.set (above c.args.floor (flat_map (λ es. es) c.as_slice.result.now)) ≡ fold with_new c.loop-k.set (above c.args.floor (flat_map (λ es. es) (report_of pages (get_or c.args.spec.now c.loop-k.k-index 0)).pages))
     = ap (λ ess. fold with_new c.loop-k.set (above c.args.floor (flat_map (λ es. es) ess))) (c.as_slice.ensures ∙ ap (λ (r : Report). r.pages) report) in
-    c.in_ok-add_pages.ensures ∙ all
+    c.in-Ok.ensures ∙ all
     ∙ ap (λ set. fold with_new set (above c.args.floor (flat_map (λ es. es) (report_of pages (get_or c.args.spec.now c.loop-k.k-index 0)).pages))) (c.loop-k.invariant pages h)
     ∙ sym (union_more c.args.spec.now pages c.loop-k.k-index in_range c.args.floor yes)

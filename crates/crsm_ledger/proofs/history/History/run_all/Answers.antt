@@ -19,12 +19,12 @@ loop-entry-preserved c =
       (λ x es has.
           subst (λ (done : List Entry). HistoryStands c.run.new.self x done)
           (append_assoc es before (c.entry-item.result ∷ []) ∙ ap (λ (prefix : List Entry). es ++ prefix) (sym more))
-          (c.in_ok-_answer.ensures.executed x (es ++ before) (c.loop-entry.invariant.0 x es has))),
+          (c.in_ok-answer.ensures.executed x (es ++ before) (c.loop-entry.invariant.0 x es has))),
       grows-trans c.args.self.now c.loop-entry.self c.run.new.self c.loop-entry.invariant.1 c.run.ensures.grows,
     )
 
-pub returns-in_err-_answer-clause-grows : goal.returns-in_err-_answer-clause-grows
-returns-in_err-_answer-clause-grows c = grows-trans c.args.self.now c.loop-entry.self c.run.new.self c.loop-entry.invariant.1 c.run.ensures.grows
+pub returns-in_err-answer-clause-grows : goal.returns-in_err-answer-clause-grows
+returns-in_err-answer-clause-grows c = grows-trans c.args.self.now c.loop-entry.self c.run.new.self c.loop-entry.invariant.1 c.run.ensures.grows
 
 pub returns-clause-grows : goal.returns-clause-grows
 returns-clause-grows c = c.loop-entry.invariant.1

@@ -9,14 +9,14 @@ use Rattle.crsm_fact_log.proofs.LogsFit.{executed_fits}
 use Rattle.crsm_replica.proofs.Replying.{answered-fits, found-some, found-none}
 use Rattle.crsm_replica.proofs.state.ReplicaState.answer_client.Goals as goal
 
-pub returns-in_ok-reply_ok-in-Some : goal.returns-in_ok-reply_ok-in-Some
+pub returns-in_ok-end_answered-in-Some : goal.returns-in_ok-end_answered-in-Some
 unfolding ReplicaStands on_paper
-returns-in_ok-reply_ok-in-Some c x s fit =
+returns-in_ok-end_answered-in-Some c x s fit =
     let r = x.replica in
     let told = subst (AllByRecursion (IsTrueOf (executed r.log))) (sym (c.lines.ensures (made_of x) s.output)) s.told in
-    let is = c.in_ok-found.ensures r.me r.n r.log s.ledger s.sound.rises told in
-    subst (λ (y : Draft). ReplicaStands c.reply_ok.new.self y) (sym (found-some (on_paper c.args.client) x c.in-Some.place c.in-Some.answer (sym c.in-Some.is ∙ is)))
-    (c.in_ok-reply_ok-in-Some.ensures x s fit
+    let is = c.in-Ok.ensures r.me r.n r.log s.ledger s.sound.rises told in
+    subst (λ (y : Draft). ReplicaStands c.end_answered.new.self y) (sym (found-some (on_paper c.args.client) x c.in-Some.place c.in-Some.answer (sym c.in-Some.is ∙ is)))
+    (c.in_ok-end_answered-in-Some.ensures x s fit
     (answered-fits (executed r.log) c.args.client.entry c.in-Some.place c.in-Some.answer (executed_fits r.log s.sound.spelt) (sym c.in-Some.is ∙ is)))
 
 pub returns-in_ok-drop_or_wait-in-None : goal.returns-in_ok-drop_or_wait-in-None
@@ -24,6 +24,6 @@ unfolding ReplicaStands on_paper
 returns-in_ok-drop_or_wait-in-None c x s fit =
     let r = x.replica in
     let told = subst (AllByRecursion (IsTrueOf (executed r.log))) (sym (c.lines.ensures (made_of x) s.output)) s.told in
-    let is = c.in_ok-found.ensures r.me r.n r.log s.ledger s.sound.rises told in
+    let is = c.in-Ok.ensures r.me r.n r.log s.ledger s.sound.rises told in
     subst (λ (y : Draft). ReplicaStands c.drop_or_wait.new.self y) (sym (found-none (on_paper c.args.client) x (sym c.in-None.is ∙ is)))
     (c.in_ok-drop_or_wait-in-None.ensures x s fit)

@@ -38,5 +38,5 @@ returns c me n log s l =
     let same : Rec.Boot c.min-me.result c.min-n.result ≡ Rec.Boot me n = same_boot c.min-me.result c.min-n.result me n number count in
     let f = it_fits c.in_ok-fit.fit me n log (Rec.Boot c.min-me.result c.min-n.result) nothing c.put.new.ledger c.put.new.output c.if-not-fit.false
     (c.in_ok-fit.ensures.kept me n log nothing s.ledger s.output) in
-    stands_booted c.args.self.now me n log c.put.new.ledger c.put.new.output c.new.result s l
-    (subst (λ (rec : Rec). InBoth me n log rec nothing c.put.new.ledger c.put.new.output) same f.1) c.new.ensures.inactive
+    stands_booted c.args.self.now me n log c.put.new.ledger c.put.new.output c.forget.new.epoch_state s l
+    (subst (λ (rec : Rec). InBoth me n log rec nothing c.put.new.ledger c.put.new.output) same f.1) c.forget.ensures.inactive

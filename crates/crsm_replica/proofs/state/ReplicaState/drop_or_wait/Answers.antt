@@ -7,11 +7,11 @@ use Rattle.crsm_replica.proofs.Rebuilt.{awaits}
 use Rattle.crsm_replica.proofs.Replying.{none-dropped, none-waits}
 use Rattle.crsm_replica.proofs.state.ReplicaState.drop_or_wait.Goals as goal
 
-pub returns-in_ok-reply_dropped : goal.returns-in_ok-reply_dropped
+pub returns-in_ok-end_dropped : goal.returns-in_ok-end_dropped
 unfolding ReplicaStands on_paper
-returns-in_ok-reply_dropped c x s fit =
-    subst (λ (y : Draft). ReplicaStands c.reply_dropped.new.self y)
-    (sym (none-dropped (on_paper c.args.client) x (sym (c.has_dropped.ensures x.replica s.ledger) ∙ c.if-has_dropped.true))) (c.in_ok-reply_dropped.ensures x s fit)
+returns-in_ok-end_dropped c x s fit =
+    subst (λ (y : Draft). ReplicaStands c.end_dropped.new.self y)
+    (sym (none-dropped (on_paper c.args.client) x (sym (c.has_dropped.ensures x.replica s.ledger) ∙ c.if-has_dropped.true))) (c.in_ok-end_dropped.ensures x s fit)
 
 pub returns-in_ok-push : goal.returns-in_ok-push
 unfolding ReplicaStands on_paper

@@ -31,5 +31,5 @@ returns c x s =
     subst (λ (e : ℕ). (fits r.me r.n r.log (Rec.Enter e) ≡ true) × InBoth r.me r.n r.log (Rec.Enter e) (made_of x) c.put.new.ledger c.put.new.output) epoch f0 in
     let small : known r.log < 18446744073709551616 = subst (λ (e : ℕ). e < 18446744073709551616) epoch c.known-epoch.type_inv in
     moved ((chosen _ x (keep rec (forget_epoch x)) f.0))
-    (recorded c.args.self.now x rec c.put.new.ledger c.put.new.output c.new.result c.args.self.now.coordinator r.coordinator [] [] [] [] [] [] []
-    s f.0 small f.1 (c.new.ensures.entered r s.sound.kept f.0) s.coordinator tt tt)
+    (recorded c.args.self.now x rec c.put.new.ledger c.put.new.output c.forget.new.epoch_state c.args.self.now.coordinator r.coordinator [] [] [] [] [] [] []
+    s f.0 small f.1 (c.forget.ensures.entered r s.sound.kept f.0) s.coordinator tt tt)

@@ -12,5 +12,5 @@ returns c x s =
     let r = x.replica in
     let now : c.known.result.now.epoch ≡ known r.log = ap (λ d. d.epoch) (c.known.ensures.value r.me r.n r.log s.ledger) ∙ known-epoch r.n r.log in
     let done : c.executed_len-from.result ≡ length (executed r.log) = c.executed_len-from.ensures.value r.me r.n r.log s.ledger in
-    subst (λ n. ReplicaStands c.send_control.new.self (send_control (Control.Retrieve (known r.log) n) x c.args.k)) done
-    (subst (λ e. ReplicaStands c.send_control.new.self (send_control (Control.Retrieve e c.executed_len-from.result) x c.args.k)) now (c.in_ok-send_control.ensures x s))
+    subst (λ n. ReplicaStands c.tell.new.self (send_control (Control.Retrieve (known r.log) n) x c.args.k)) done
+    (subst (λ e. ReplicaStands c.tell.new.self (send_control (Control.Retrieve e c.executed_len-from.result) x c.args.k)) now (c.in_ok-tell.ensures x s))

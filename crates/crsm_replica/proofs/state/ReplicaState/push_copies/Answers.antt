@@ -9,7 +9,7 @@ use Rattle.crsm_spec.specs.Replica.{members_of, other_members}
 use Rattle.crsm_fact_log.proofs.Known.{known-epoch, known-members}
 use Rattle.crsm_replica.specs.Replica.{ReplicaStands}
 use Rattle.crsm_replica.proofs.Framed.{pushed}
-use Rattle.crsm_replica.proofs.state.ReplicaState.push_at.Goals as goal
+use Rattle.crsm_replica.proofs.state.ReplicaState.push_copies.Goals as goal
 
 pub returns : goal.returns
 unfolding ReplicaStands would members_of other_members
@@ -21,6 +21,6 @@ returns c x reading s fit is =
     let members : c.known-3.result.now.members ≡ members_of r = ap (λ d. d.members) (c.known-3.ensures.value r.me r.n r.log s.ledger) ∙ known-members r.n r.log in
     let others : others_of c.me-number.result c.as_slice.result.now ≡ other_members r =
     ap (λ me. others_of me c.as_slice.result.now) mine ∙ ap (others_of r.me) (c.as_slice.ensures.value ∙ listed) in
-    pushed c.args.self.now x reading c.args.time c.args.payload c.send_next.new.output c.push_at.new.self (others_of c.me-number.result c.as_slice.result.now) s fit is (omega arith)
+    pushed c.args.self.now x reading c.args.time c.args.payload.now c.send_next.new.output c.push_at.new.self (others_of c.me-number.result c.as_slice.result.now) s fit is (omega arith)
     others (All-filter (λ k. not (k == c.me-number.result)) (λ k. k < 15) c.as_slice.result.now c.as_slice.ensures.below) (c.in_ok-send_next.ensures r (made_of x) s.epoch_state s.output mine now)
     (c.in_ok-push_at.ensures r reading s.epoch_state mine members is)

@@ -3,7 +3,7 @@ use Rattle.std.proofs.lemmas.List.{take_more}
 use Rattle.std.proofs.lemmas.Option.{slice_get_within, get_or_from_slice_get}
 use Rattle.crsm_ledger.specs.Recovered.{with_records}
 use Rattle.crsm_ledger.proofs.RecoverLemmas.{kept-more}
-use Rattle.crsm_ledger.proofs.ledger.Ledger.recover.Goals as goal
+use Rattle.crsm_ledger.proofs.ledger.Ledger.take_bodies.Goals as goal
 
 pub loop-index-preserved : goal.loop-index-preserved
 loop-index-preserved c =
@@ -14,12 +14,14 @@ loop-index-preserved c =
     let within : c.loop-index.index < length bodies = slice_get_within bodies c.loop-index.index body there in
     let more : take (c.loop-index.index + 1) bodies ≡ take c.loop-index.index bodies ++ body ∷ [] =
     take_more bodies c.loop-index.index [] within ∙ ap (λ (b : List ℕ). take c.loop-index.index bodies ++ b ∷ []) (get_or_from_slice_get bodies c.loop-index.index body [] there) in
-    let step = c.in-Ok.ensures.taken c.args.me c.args.n so_far.0 so_far.2 in (
-      (
-        with_records so_far.0 step.0,
-        kept-more c.args.me c.args.n bodies c.loop-index.index body body so_far.0 step.0 more refl so_far.1 step.1 step.2,
-        step.3,
-      ),
+    let step = c.in-Ok.ensures.taken in (
+      (λ me n s.
+          let before = so_far me n s in
+          let kept = step me n before.0 before.2 in (
+            with_records before.0 kept.0,
+            kept-more me n bodies c.loop-index.index body body before.0 kept.0 more refl before.1 kept.1 kept.2,
+            kept.3,
+          )),
       c.in-Ok.ensures.accepted,
       c.in-Ok.ensures.tail,
     )
