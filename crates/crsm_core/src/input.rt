@@ -3,7 +3,7 @@
 use crsm_base::{Datagram, Members};
 
 /// The input of one step.
-#[derive(Debug, Drop)]
+#[derive(Drop)]
 pub enum Input {
     /// A datagram from an address, IPv4 x 65,536 + port.
     Datagram { from: u64, datagram: Datagram },

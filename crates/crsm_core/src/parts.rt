@@ -2,12 +2,14 @@
 
 ghost use Rattle.std.specs.Prelude.{◌≡◌, ◌<◌, true};
 ghost use Rattle.crsm_segment.specs.Taking.{is_sized, piece};
+ghost use Rattle.crsm_base.specs.Messages.{FitsControl};
+ghost use Rattle.crsm_spec.specs.Controls as controls;
 ghost use Rattle.crsm_spec.specs.Draft.{Draft};
 ghost use Rattle.crsm_spec.specs.Step as rules;
 ghost use Rattle.crsm_base.specs.MessageReading.{control_of};
 ghost use Rattle.crsm_replica_reconfigure.specs.Receiving.{FollowsFrom};
 
-use crsm_base::NoMemory;
+use crsm_base::{Control, NoMemory};
 use crsm_replica::{ReplicaState, states_are_sound};
 use crsm_replica_reconfigure::on_control;
 use crsm_wire::{WireError, read_control};
@@ -56,10 +58,21 @@ fn on_message(state: &mut ReplicaState, from: u32, bytes: &[u8]) -> Result<(), N
 {
     match read_control(state.alloc(), bytes) {
         Ok(control) => {
-            on_control(state, from, &control)?;
+            handle(state, from, control)?;
             Ok(())
         }
         Err(WireError::NotOne) => Ok(()),
         Err(WireError::NoMemory) => Err(NoMemory),
     }
+}
+
+/// Handles a control message.
+fn handle(state: &mut ReplicaState, from: u32, control: Control) -> Result<(), NoMemory>
+    requires from { from < 15 }
+    requires spelt { FitsControl control }
+    ensures { FollowsFrom from (controls.on_control from control) state.old result state.new }
+{
+    let handled = on_control(state, from, &control);
+    drop(control);
+    handled
 }

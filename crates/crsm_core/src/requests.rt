@@ -1,11 +1,11 @@
 //! The rule for requests of clients.
 
-ghost use Rattle.std.specs.Prelude.{◌≡◌, ℕ, Some, IfOk};
-ghost use Rattle.crsm_base.specs.Spelling.{FitsCommand};
+ghost use Rattle.std.specs.Prelude.{◌≡◌, ◌<◌, ℕ, Some, IfOk};
+ghost use Rattle.crsm_base.specs.Spelling.{FitsCommand, FitsEntry};
 ghost use Rattle.crsm_spec.specs.Clients as clients;
-ghost use Rattle.crsm_spec.specs.Draft.{Draft, would};
+ghost use Rattle.crsm_spec.specs.Draft.{Draft, count_vote, would};
 ghost use Rattle.crsm_spec.specs.Step.{if_fitting};
-ghost use Rattle.crsm_replica.specs.Replica.{ReplicaStands};
+ghost use Rattle.crsm_replica.specs.Replica.{Makes, ReplicaStands};
 ghost use Rattle.crsm_replica_reconfigure.specs.Rules.{Follows};
 
 use crate::records::log_entry;
@@ -75,12 +75,35 @@ fn submit(
         stamp,
         command: command.copy(state.alloc())?,
     };
-    if !log_entry(state, &entry)? {
+    let Ok(fits) = log_entry(state, &entry) else {
+        drop(entry);
+        return Err(NoMemory);
+    };
+    if !fits {
+        drop(entry);
         return Ok(());
     }
-    state.count_vote(stamp, me)?;
+    let Ok(()) = vote_and_await(state, address, &entry, me) else {
+        drop(entry);
+        return Err(NoMemory);
+    };
+    state.push_at(time, InEpoch::Prepare { entry })?;
+    Ok(())
+}
+
+/// Counts the vote of replica `me` for the entry, and records that the client at `address` waits for it.
+fn vote_and_await(
+    state: &mut ReplicaState,
+    address: u64,
+    entry: &Entry,
+    me: u32,
+) -> Result<(), NoMemory>
+    requires me { me < 15 }
+    requires spelt { FitsEntry entry.now }
+    ensures { Makes (λ x. clients.await address entry.now (count_vote entry.now.stamp me x)) state.old result state.new }
+{
+    state.count_vote(entry.stamp, me)?;
     let awaited = entry.copy(state.alloc())?;
     state.await_entry(address, awaited)?;
-    state.push_at(time, InEpoch::Prepare { entry })?;
     Ok(())
 }

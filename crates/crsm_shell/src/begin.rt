@@ -113,6 +113,7 @@ fn with_room(ledger: Ledger) -> Result<Ledger, BootError>
     ensures refused { IfErr result (λ why. why ≡ BootError.NoMemory) }
 {
     if ledger.boot() == u64::MAX {
+        drop(ledger);
         return Err(BootError::NoMemory);
     }
     Ok(ledger)

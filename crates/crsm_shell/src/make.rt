@@ -40,28 +40,32 @@ pub(crate) fn make(
 {
     match taken {
         ReceivedInput::Datagram { from, len } => come(alloc, core, *from, &buffer[..*len], reading),
-        ReceivedInput::Tick => step(core, &Input::Tick, reading, None),
+        ReceivedInput::Tick => step(core, Input::Tick, reading, None),
         ReceivedInput::Suspect(members) => {
             let members = members.copy(alloc)?;
-            step(core, &Input::Suspect { members }, reading, None)
+            step(core, Input::Suspect { members }, reading, None)
         }
     }
 }
 
-/// Runs one step of the core on an input received from this replica.
+/// Runs one step of the core on an input received from this replica. An input is large: it is dropped here alone.
 fn step(
     core: &mut Core,
-    input: &Input,
+    input: Input,
     reading: u64,
     received: Option<u32>,
 ) -> Result<StepResult, NoMemory>
-    requires { FitsInput input.now }
+    requires { FitsInput input }
     ensures step { IfOk result (λ made. (r : Replica) → CoreStands core.old r →
-        Answers made.batch (rules.step r (input_of input.now) reading) × CoreStands core.new (rules.step r (input_of input.now) reading).replica) }
+        Answers made.batch (rules.step r (input_of input) reading) × CoreStands core.new (rules.step r (input_of input) reading).replica) }
     ensures received { IfOk result (λ made. made.received ≡ received) }
 {
-    let batch = core.step(input, reading)?;
-    Ok(StepResult { batch, received })
+    let stepped = core.step(&input, reading);
+    drop(input);
+    Ok(StepResult {
+        batch: stepped?,
+        received,
+    })
 }
 
 /// Runs one step of the core on bytes from an address. Bytes that are not a datagram change nothing.
@@ -81,7 +85,7 @@ fn come(
         Ok(datagram) => {
             let received = sender_of(&datagram);
             // The datagram is large: it is moved once, into the input.
-            step(core, &Input::Datagram { from, datagram }, reading, received)
+            step(core, Input::Datagram { from, datagram }, reading, received)
         }
         Err(WireError::NotOne) => Ok(nothing(alloc)),
         Err(WireError::NoMemory) => Err(NoMemory),

@@ -3,7 +3,7 @@
 use crsm_base::Members;
 
 /// The input of a machine's step.
-#[derive(Debug, Drop)]
+#[derive(Drop)]
 pub enum Arrival<'a> {
     /// Bytes from an address: a replica's number in a world, else IPv4 x 65,536 + port. They need not be the encoding
     /// of a datagram. Those beyond `MAX_DATAGRAM_BYTES` are cut off.

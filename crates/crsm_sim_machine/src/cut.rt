@@ -74,8 +74,14 @@ fn stopped_disk(shell: Shell<MemDisk>, stop: PutStop) -> Result<MemDisk, NoMemor
         Err(TurnError::Failed) => unreachable!(),
         Err(TurnError::PortFault) => unreachable!(),
         // The log has no room for the records.
-        Err(TurnError::LogFull) => Err(NoMemory),
-        Err(TurnError::NoMemory) => Err(NoMemory),
+        Err(TurnError::LogFull) => {
+            drop(shell);
+            Err(NoMemory)
+        }
+        Err(TurnError::NoMemory) => {
+            drop(shell);
+            Err(NoMemory)
+        }
     }
 }
 
@@ -106,6 +112,7 @@ pub(crate) fn cut(
             },
         ));
     }
+    drop(step);
     Ok((
         None,
         Stopped {

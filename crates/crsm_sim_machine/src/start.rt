@@ -53,7 +53,7 @@ impl Machine {
         match mem::replace(&mut self.state, MachineState::Spent) {
             MachineState::Down(stopped) => {
                 let running = boot_on(self.alloc, self.me, self.n, stopped.left)?;
-                self.state = MachineState::Up(running.shell);
+                self.state.change(MachineState::Up(running.shell));
                 Ok(running.boot)
             }
             MachineState::Up(_) => unreachable!(),

@@ -28,11 +28,11 @@ impl Machine {
     {
         match mem::replace(&mut self.state, MachineState::Spent) {
             MachineState::Up(shell) => {
-                self.state = MachineState::Down(stopped_by(shell)?);
+                self.state.change(MachineState::Down(stopped_by(shell)?));
                 Ok(())
             }
             MachineState::Down(left) => {
-                self.state = MachineState::Down(left);
+                self.state.change(MachineState::Down(left));
                 Ok(())
             }
             MachineState::Spent => Err(NoMemory),
@@ -60,7 +60,7 @@ impl Machine {
             MachineState::Up(shell) => {
                 let stop = PutStop { calls, fill };
                 let (step, left) = cut(shell, stop, arrival, reading)?;
-                self.state = MachineState::Down(left);
+                self.state.change(MachineState::Down(left));
                 Ok(step)
             }
             MachineState::Down(_) => unreachable!(),

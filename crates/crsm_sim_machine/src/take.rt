@@ -40,7 +40,7 @@ impl Machine {
                 Ok(made) => Ok(made),
                 Err(why) => {
                     // Half a step was made.
-                    self.state = MachineState::Spent;
+                    self.state.change(MachineState::Spent);
                     Err(why)
                 }
             },
@@ -63,7 +63,7 @@ impl Machine {
                 Ok(step) => Ok(step),
                 Err(why) => {
                     // Half a step was taken.
-                    self.state = MachineState::Spent;
+                    self.state.change(MachineState::Spent);
                     Err(why)
                 }
             },
@@ -85,7 +85,7 @@ impl Machine {
                 Ok(first) => Ok(first),
                 Err(why) => {
                     // Half a flush was made.
-                    self.state = MachineState::Spent;
+                    self.state.change(MachineState::Spent);
                     Err(why)
                 }
             },

@@ -1,6 +1,6 @@
 //! The datagrams that leave a replica.
 
-ghost use Rattle.std.specs.Prelude.{◌≡◌, ◌≤◌, ◌+◌, ◌++◌, ◌∷◌, [], ℕ, List, length, map, IfOk, OnOk};
+ghost use Rattle.std.specs.Prelude.{◌≡◌, ◌≤◌, ◌+◌, ◌-◌, ◌++◌, ◌∷◌, [], ℕ, List, length, map, min, IfOk, OnOk};
 ghost use Rattle.std.specs.List.{AllByRecursion};
 ghost use Rattle.crsm_base.specs.Messages.{FitsDatagram, datagram_bytes};
 ghost use Rattle.crsm_spec.specs.World as on_paper;
@@ -95,6 +95,7 @@ impl Network {
             HasSent self.new packets bytes k (sent_of sends.now))) }
         ensures lines { OnOk result (WhereStands self.old (λ packets bytes. AreSpelt sends.now (packets_of sent.now) first →
             lines.new ≡ lines.old ++ on_paper.send_lines k (length packets) (sent_of sends.now))) }
+        ensures exact { IfOk result (λ next. next ≡ first + min (length (packets_of sent.now) - first) (length sends.now)) }
         ensures behind { IfOk result (λ next. AreSpelt sends.now (packets_of sent.now) first → next ≡ first + length sends.now) }
     {
         let there = sent.len().saturating_sub(first);

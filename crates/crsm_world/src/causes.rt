@@ -17,7 +17,7 @@ ghost use Rattle.crsm_world.specs.World.{Holds, WhereHolds};
 use crate::bad::Bad;
 use crate::replicas::{are_too_few, is_none, one_is_past};
 use crate::world::World;
-use crsm_base::{Datagram, Members};
+use crsm_base::Members;
 use crsm_schedule::{Event, Single};
 use crsm_wire::{WireError, read_datagram};
 
@@ -162,7 +162,7 @@ impl World {
     {
         match read_datagram(self.alloc, bytes) {
             Ok(datagram) => {
-                discard(datagram);
+                drop(datagram);
                 Err(Bad::Forged)
             }
             Err(WireError::NotOne) => Ok(()),
@@ -300,6 +300,3 @@ impl World {
         self.check_event(event)
     }
 }
-
-/// Drops a datagram in its own function, which keeps its cases out of its caller's proof.
-fn discard(_datagram: Datagram) {}

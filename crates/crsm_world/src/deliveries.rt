@@ -2,6 +2,7 @@
 
 ghost use Rattle.std.specs.Prelude.{◌≡◌, ◌<◌, ◌≤◌, None, Some, ℕ, fold, drop, length, slice_get, IfOk, OnOk};
 ghost use Rattle.crsm_sim_machine.specs.Arriving.{turn_of};
+ghost use Rattle.crsm_base.specs.Messages.{FitsDatagram, datagram_bytes};
 ghost use Rattle.crsm_base.specs.Spelling.{FitsCommand};
 ghost use Rattle.crsm_schedule.specs.Grammar.{FitsSingle};
 ghost use Rattle.crsm_spec.specs.Acts.{Single as OneStep};
@@ -20,6 +21,7 @@ use crsm_base::{Bytes, Command, Datagram, Lines, NoMemory};
 use crsm_schedule::Single;
 use crsm_sim_machine::Arrival;
 use crsm_wire::write_datagram;
+use std::alloc::Global;
 
 impl World {
     /// Runs a step of replica `k` on an arrival, and ends it as `ending` says. Nothing happens if the replica is down.
@@ -129,11 +131,7 @@ impl World {
         ensures { OnOk result (WhereHolds self.old (λ v.
             LeadsOn (turn_at (ending_of ending) v k (request_turn command.now) reading) self.new.sites self.new.network lines.old lines.new)) }
     {
-        let datagram = Datagram::Request {
-            command: command.copy(self.alloc)?,
-        };
-        let mut bytes = Bytes::new(self.alloc);
-        write_datagram(self.alloc, &datagram, &mut bytes)?;
+        let bytes = request_bytes(self.alloc, command)?;
         self.bytes_arrive(k, ending, command.client, bytes.as_slice(), reading, lines)?;
         Ok(())
     }
@@ -188,4 +186,28 @@ impl World {
         self.add_single(ending, single, &mut lines)?;
         Ok(lines)
     }
+}
+
+/// Returns the bytes of a client's request for a command.
+fn request_bytes(alloc: Global, command: &Command) -> Result<Bytes, NoMemory>
+    requires { FitsCommand command.now }
+    ensures { IfOk result (λ bytes. bytes ≡ datagram_bytes (Datagram.Request command.now)) }
+{
+    // A datagram is large: it is dropped here alone.
+    let datagram = Datagram::Request {
+        command: command.copy(alloc)?,
+    };
+    let bytes = encoded(alloc, &datagram);
+    drop(datagram);
+    bytes
+}
+
+/// Returns the encoding of a datagram.
+fn encoded(alloc: Global, datagram: &Datagram) -> Result<Bytes, NoMemory>
+    requires { FitsDatagram datagram.now }
+    ensures { IfOk result (λ bytes. bytes ≡ datagram_bytes datagram.now) }
+{
+    let mut bytes = Bytes::new(alloc);
+    write_datagram(alloc, datagram, &mut bytes)?;
+    Ok(bytes)
 }

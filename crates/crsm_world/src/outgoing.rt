@@ -34,10 +34,35 @@ pub(crate) fn let_out(
     requires { AllByRecursion FitsSent step.batch.sends }
     ensures stands { OnOk result (WhereMade network.old step (λ packets bytes x. AreSpelt (take count step.batch.sends) (packets_of sent.now) first →
         LetsOutSome count lines.old packets bytes k x network.new lines.new)) }
+    ensures exact { IfOk result (λ next. next ≡ first + min (length (packets_of sent.now) - first) (min count (length step.batch.sends))) }
     ensures behind { IfOk result (λ next. AreSpelt (take count step.batch.sends) (packets_of sent.now) first →
         next ≡ first + min count (length step.batch.sends)) }
 {
     let mut step = step;
+    let next = let_some_out(alloc, network, k, &mut step, count, sent, first, lines);
+    // A step is large: it is dropped here alone.
+    drop(step);
+    next
+}
+
+/// Does the same for a step that stays with the caller, without the lines that were moved.
+fn let_some_out(
+    alloc: Global,
+    network: &mut Network,
+    k: u32,
+    step: &mut Step,
+    count: u64,
+    sent: &SentPackets,
+    first: usize,
+    lines: &mut Lines,
+) -> Result<usize, NoMemory>
+    requires { AllByRecursion FitsSent step.old.batch.sends }
+    ensures stands { OnOk result (WhereMade network.old step.old (λ packets bytes x. AreSpelt (take count step.old.batch.sends) (packets_of sent.now) first →
+        LetsOutSome count lines.old packets bytes k x network.new lines.new)) }
+    ensures exact { IfOk result (λ next. next ≡ first + min (length (packets_of sent.now) - first) (min count (length step.old.batch.sends))) }
+    ensures behind { IfOk result (λ next. AreSpelt (take count step.old.batch.sends) (packets_of sent.now) first →
+        next ≡ first + min count (length step.old.batch.sends)) }
+{
     let made = step.batch.sends.as_slice().len();
     let packets = packets_in(step.batch.sends.as_slice());
     let told = step.batch.lines.as_slice().len();
@@ -78,6 +103,7 @@ pub(crate) fn let_all_out(
     lines: &mut Lines,
 ) -> Result<usize, NoMemory>
     requires { AllByRecursion FitsSent step.batch.sends }
+    ensures exact { IfOk result (λ next. next ≡ first + min (length (packets_of sent.now) - first) (length step.batch.sends)) }
     ensures behind { IfOk result (λ next. AreSpelt step.batch.sends (packets_of sent.now) first → next ≡ first + length step.batch.sends) }
     ensures stands { OnOk result (WhereMade network.old step (λ packets bytes x. AreSpelt step.batch.sends (packets_of sent.now) first →
         LetsOut lines.old packets bytes k x x.sends x.replies network.new lines.new)) }

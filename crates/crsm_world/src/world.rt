@@ -1,10 +1,11 @@
 //! The world of a simulated cluster.
 
-ghost use Rattle.std.specs.Prelude.{◌≡◌, ◌≢◌, ◌≤◌, ◌+◌, ◌<◌, ℕ, None, IfOk, IfErr, IsErrOf, IsErr, IfSome, Some, List, [], ◌∷◌, ◌++◌, slice_get, is_some};
+ghost use Rattle.std.specs.Prelude.{◌≡◌, ◌≢◌, ◌≤◌, ◌+◌, ◌<◌, ℕ, None, IfOk, IfErr, IsErrOf, IsErr, IfSome, OnOk, Some, List, [], ◌∷◌, ◌++◌, slice_get, is_some};
 ghost use Rattle.crsm_disk.specs.Memory.{meaning_of};
 ghost use Rattle.crsm_schedule.specs.Grammar.{FitsEvent};
 ghost use Rattle.crsm_shell.specs.Shell.{ShellStands};
 ghost use Rattle.crsm_shell.specs.Words.{disk_of};
+ghost use Rattle.crsm_sim_network.specs.Packets.{NetworkStands};
 ghost use Rattle.crsm_spec.specs.Acts.{Act};
 ghost use Rattle.crsm_spec.specs.Moments.{act};
 ghost use Rattle.crsm_spec.specs.Possible.{possible};
@@ -12,6 +13,7 @@ ghost use Rattle.crsm_spec.specs.Replica.{Replica};
 ghost use Rattle.crsm_spec.specs.World as on_paper;
 ghost use Rattle.crsm_world.specs.Doing.{act_of, bad_of};
 ghost use Rattle.crsm_world.specs.Laws.{HasDone, IsLawful};
+ghost use Rattle.crsm_world.specs.Machines.{MachinesStand};
 ghost use Rattle.crsm_world.specs.World.{Holds, WorldStands, IsSpent, WhereHolds, WhereStands, WhereUp};
 
 use crate::bad::Bad;
@@ -56,13 +58,26 @@ impl World {
             is_spent: true,
             spare: Lines::new(alloc),
         };
-        let mut lines = Lines::new(alloc);
-        for k in 0..n {
-            let mut more = world.start(u64::from(k))?;
-            lines.append(&mut more)?;
-        }
+        let lines = world.start_all(n)?;
         world.is_spent = false;
         Ok((world, lines))
+    }
+
+    /// Boots the replicas that a cluster of `n` begins with, in order, and returns the lines of their boots. `NoMemory`
+    /// if memory runs out.
+    fn start_all(&mut self, n: u32) -> Result<Lines, NoMemory>
+        requires most { n ≤ 15 }
+        requires sites { MachinesStand self.old.sites n [] }
+        requires network { NetworkStands self.old.network [] 0 }
+        ensures holds { OnOk result (Holds self.new (on_paper.begin n)) }
+        ensures lines { IfOk result (λ lines. lines ≡ on_paper.first_lines n) }
+    {
+        let mut lines = Lines::new(self.alloc);
+        for k in 0..n {
+            let mut more = self.start(u64::from(k))?;
+            lines.append(&mut more)?;
+        }
+        Ok(lines)
     }
 
     /// Executes an event and returns its lines. After an error other than `NoMemory` the world is unchanged; after

@@ -8,13 +8,13 @@ use Rattle.crsm_core.proofs.Fitting.{left}
 use Rattle.crsm_core.proofs.StepLemmas.{fitted_as, no_message, a_message}
 use Rattle.crsm_core.proofs.parts.on_message.Goals as goal
 
-pub on_control-requires : goal.on_control-requires
-on_control-requires c = record { from = c.requires; spelt = c.in-Ok.ensures.found.fits }
+pub handle-requires : goal.handle-requires
+handle-requires c = record { from = c.requires; spelt = c.in-Ok.ensures.found.fits }
 
-pub returns-in_ok-on_control-in-Ok : goal.returns-in_ok-on_control-in-Ok
-returns-in_ok-on_control-in-Ok c = λ x s n.
-    fitted_as c.on_control.new.state x (on_control c.args.from c.in-Ok.control x) (on_whole_message c.args.from (control_of c.args.bytes.now) x)
-    (a_message c.args.from c.args.bytes.now c.in-Ok.control x c.in-Ok.ensures.value) (c.in_ok-on_control-in-Ok.ensures x s n)
+pub returns-in_ok-handle-in-Ok : goal.returns-in_ok-handle-in-Ok
+returns-in_ok-handle-in-Ok c = λ x s n.
+    fitted_as c.handle.new.state x (on_control c.args.from c.in-Ok.control x) (on_whole_message c.args.from (control_of c.args.bytes.now) x)
+    (a_message c.args.from c.args.bytes.now c.in-Ok.control x c.in-Ok.ensures.value) (c.in_ok-handle-in-Ok.ensures x s n)
 
 pub returns-in-Err-NotOne : goal.returns-in-Err-NotOne
 returns-in-Err-NotOne c = λ x s n.

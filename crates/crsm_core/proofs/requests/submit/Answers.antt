@@ -1,4 +1,4 @@
-use Rattle.std.proofs.Common.{◌≡◌, ◌∙◌, sym, subst, arith, true}
+use Rattle.std.proofs.Common.{◌≡◌, ◌∙◌, refl, sym, arith, true}
 use Rattle.crsm_base.specs.Spelling.{FitsEntry}
 use Rattle.crsm_spec.specs.Types.{Stamp, Entry, Rec}
 use Rattle.crsm_spec.specs.Clients.{await}
@@ -12,38 +12,33 @@ pub log_entry-requires : goal.log_entry-requires
 log_entry-requires c =
     entry_fits c.args.command.now c.in_ok-copy.field-0 c.args.time c.me-me.result c.known.result c.in_ok-copy.ensures c.requires (omega arith) c.me-me.ensures.below (omega arith)
 
-pub await_entry-requires : goal.await_entry-requires
-await_entry-requires c =
-    let e : Entry = record { epoch = c.known.result; stamp = record { time = c.args.time; origin = c.me-me.result }; command = c.in_ok-copy.field-0 } in
-    let fits : FitsEntry e =
-    entry_fits c.args.command.now c.in_ok-copy.field-0 c.args.time c.me-me.result c.known.result c.in_ok-copy.ensures c.requires (omega arith) c.me-me.ensures.below (omega arith) in
-    subst FitsEntry (sym c.in_ok-awaited.ensures) fits
+pub vote_and_await-requires-clause-spelt : goal.vote_and_await-requires-clause-spelt
+vote_and_await-requires-clause-spelt c =
+    entry_fits c.args.command.now c.in_ok-copy.field-0 c.args.time c.me-me.result c.known.result c.in_ok-copy.ensures c.requires (omega arith) c.me-me.ensures.below (omega arith)
 
-pub returns-then-not-branch : goal.returns-then-not-branch
-returns-then-not-branch c = λ x reading s w.
-    let both = c.in_ok-log_entry.ensures x s in
+pub returns-then-not-fits : goal.returns-then-not-fits
+returns-then-not-fits c = λ x reading s w.
+    let both = c.in-Ok.ensures x s in
     let e : Entry = record { epoch = c.known.result; stamp = record { time = c.args.time; origin = c.me-me.result }; command = c.in_ok-copy.field-0 } in
     is_not_submitted c.log_entry.new.state c.args.address c.args.command.now c.args.time x e
     (entry_is c.args.command.now c.in_ok-copy.field-0 c.args.time c.me-me.result c.known.result x (c.me-me.ensures.value x s) (c.known.ensures x s) c.in_ok-copy.ensures)
-    (sym both.0 ∙ c.if-not-branch.true) both.1
+    (sym both.0 ∙ c.if-not-fits.true) both.1
 
 pub returns : goal.returns
 returns c = λ x reading s w.
-    let both = c.in_ok-log_entry.ensures x s in
+    let both = c.in-Ok.ensures x s in
     let me = c.me-me.result in
     let stamp : Stamp = record { time = c.args.time; origin = me } in
     let e : Entry = record { epoch = c.known.result; stamp = stamp; command = c.in_ok-copy.field-0 } in
-    let f : Entry = c.in_ok-awaited.awaited in
     let rec : Rec = Rec.Prepare e in
     let y : Draft = keep rec x in
-    let fit : y.fitting ≡ true = sym both.0 ∙ c.if-not-branch.false in
+    let fit : y.fitting ≡ true = sym both.0 ∙ c.if-not-fits.false in
     let a : ReplicaStands c.log_entry.new.state y = stands_as c.log_entry.new.state _ y (if_fits x y fit) both.1 in
-    let b = c.in_ok-count_vote.ensures y a in
-    let d = c.in_ok-await_entry.ensures (count_vote stamp me y) b in
+    let d = c.in-Ok-vote_and_await.ensures y a in
     let fits : FitsEntry e =
     entry_fits c.args.command.now c.in_ok-copy.field-0 c.args.time me c.known.result c.in_ok-copy.ensures c.requires (omega arith) c.me-me.ensures.below (omega arith) in
-    let g = c.in_ok-push_at.ensures (await c.args.address f (count_vote stamp me y)) reading d fits (would_kept c.args.address f stamp me rec x reading ∙ w) in
-    is_submitted c.push_at.new.self c.args.address c.args.command.now c.args.time x stamp e f me (c.me-me.ensures.value x s)
+    let g = c.in_ok-push_at.ensures (await c.args.address e (count_vote stamp me y)) reading d fits (would_kept c.args.address e stamp me rec x reading ∙ w) in
+    is_submitted c.push_at.new.self c.args.address c.args.command.now c.args.time x stamp e e me (c.me-me.ensures.value x s)
     (stamp_is c.args.time me x (c.me-me.ensures.value x s))
     (entry_is c.args.command.now c.in_ok-copy.field-0 c.args.time me c.known.result x (c.me-me.ensures.value x s) (c.known.ensures x s) c.in_ok-copy.ensures)
-    c.in_ok-awaited.ensures fit g
+    refl fit g

@@ -11,3 +11,9 @@ returns-clause-behind c spelt =
     let next = c.in_ok-next.ensures.behind (spelt_first _ _ _ _ spelt) in
     let all = ap length c.as_slice.ensures in
     omega (arith, next, all)
+
+pub returns-clause-exact : goal.returns-clause-exact
+returns-clause-exact c =
+    let next = c.in_ok-next.ensures.exact in
+    let all = ap length c.as_slice.ensures in
+    omega (arith, next, all)

@@ -1,4 +1,4 @@
-use Rattle.std.proofs.Common.{refl, sym, subst}
+use Rattle.std.proofs.Common.{sym, subst}
 use Rattle.std.proofs.Math.Logic.{∥∥₁_map}
 use Rattle.crsm_spec.specs.Node.{turn}
 use Rattle.crsm_spec.specs.World.{Site}
@@ -13,7 +13,7 @@ unfolding MachineStands
 returns-in_ok-step-in-Up-clause-stands c me n r h =
     let up = subst (λ p. IsIn me n p (Site.Up r)) (sym c.in-Up.ensures.value) h.2 in
     let cut = c.in_ok-step-in-Up.ensures.stands me n r up in
-    cut_machine c.args.calls c.args.fill me n r (turn r (turn_of c.args.arrival, c.args.reading)) _ _ _ h.0 h.1 refl cut
+    cut_machine c.args.calls c.args.fill me n r (turn r (turn_of c.args.arrival, c.args.reading)) _ _ _ h.0 h.1 c.change.ensures cut
 
 -- ---- the state is one of the replica
 
@@ -27,7 +27,8 @@ pub invariant_of-self-in-Up-clause-stands : goal.invariant_of-self-in-Up-clause-
 invariant_of-self-in-Up-clause-stands c =
     let i = c.args.self.now.me in
     let j = c.args.self.now.n in
-    ∥∥₁_map (subst (λ p. ∥ IsStateOf i j p ∥₁) (sym c.in-Up.ensures.value) c.args.self.now.stands) (λ h. c.in_ok-step-in-Up.ensures.some i j h)
+    subst (λ p. ∥ IsStateOf i j p ∥₁) (sym c.change.ensures)
+    (∥∥₁_map (subst (λ p. ∥ IsStateOf i j p ∥₁) (sym c.in-Up.ensures.value) c.args.self.now.stands) (λ h. c.in_ok-step-in-Up.ensures.some i j h))
 
 -- ---- what it is not asked for
 

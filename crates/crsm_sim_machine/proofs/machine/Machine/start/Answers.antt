@@ -20,7 +20,7 @@ returns-in_ok-running-in-Down c me n log h =
     Boots b.boot (boot x y log) × (i ≡ x) × (j ≡ y) × IsUpAs x y b.shell (boot x y log).replica.log (boot x y log).replica [] in
     let first : P i j = (record { lines = booted.0; size = booted.1; quiet = c.boots_are_quiet.ensures i j log }, refl, refl, booted.2) in
     let whole : P me n = subst (λ y. P me y) h.1 (subst (λ x. P x j) h.0 first) in
-    (whole.0, (whole.1, whole.2, whole.3))
+    (whole.0, (whole.1, whole.2, subst (λ p. IsIn me n p (Site.Up (boot me n log).replica)) (sym c.change.ensures) whole.3))
 
 -- ---- the state is one of the replica
 
@@ -31,8 +31,9 @@ pub invariant_of-self-in-Down-clause-stands : goal.invariant_of-self-in-Down-cla
 invariant_of-self-in-Down-clause-stands c =
     let i = c.args.self.now.me in
     let j = c.args.self.now.n in
-    ∥∥₁_map (subst (λ p. ∥ IsStateOf i j p ∥₁) (sym c.in-Down.ensures.value) c.args.self.now.stands)
-    (λ h. record { kept = _; replica = (boot i j h.log).replica; steps = []; is = (c.in_ok-running-in-Down.ensures h.log h.has).2 })
+    subst (λ p. ∥ IsStateOf i j p ∥₁) (sym c.change.ensures)
+    (∥∥₁_map (subst (λ p. ∥ IsStateOf i j p ∥₁) (sym c.in-Down.ensures.value) c.args.self.now.stands)
+    (λ h. record { kept = _; replica = (boot i j h.log).replica; steps = []; is = (c.in_ok-running-in-Down.ensures h.log h.has).2 }))
 
 -- ---- what it is not asked for
 
