@@ -1,6 +1,6 @@
 //! The replica in memory: its boot and its steps.
 
-ghost use Rattle.std.specs.Prelude.{◌<◌, ◌≤◌, IfOk, IsErr};
+ghost use Rattle.std.specs.Prelude.{◌<◌, ◌≤◌, IsErr, OnOk};
 ghost use Rattle.crsm_mpspec.specs.Log.{Log};
 ghost use Rattle.crsm_mpspec.specs.Replica.{fresh};
 ghost use Rattle.crsm_mpspec.specs.Step as steps;
@@ -37,12 +37,13 @@ impl MpCore {
         }
     }
 
-    /// Runs one step and returns its output; a message comes from replica `from`. The records must be durable before
-    /// the messages are sent. `NoMemory` if memory runs out; the replica is then spent.
+    /// Runs one step and puts its output into `out`, whose memory a later step uses; a message comes from replica `from`.
+    /// The records must be durable before the messages are sent. `NoMemory` if memory runs out; the replica is then
+    /// spent.
     #[tactic(auto, unfolding(crate::specs::Core::IsSpent))]
-    pub fn step(&mut self, input: &MpInput, from: u32) -> Result<MpBatch, NoMemory>
-        ensures made { FitsInput input.now → WhereCore self.old (λ r. IfOk result (λ batch. Answers batch (outcome_of (steps.step r input.now from)))) }
-        ensures stands { FitsInput input.now → WhereCore self.old (λ r. IfOk result (λ batch. MpCoreStands self.new (steps.step r input.now from).replica)) }
+    pub fn step(&mut self, input: &MpInput, from: u32, out: &mut MpBatch) -> Result<(), NoMemory>
+        ensures made { FitsInput input.now → WhereCore self.old (λ r. OnOk result (Answers out.new (outcome_of (steps.step r input.now from)))) }
+        ensures stands { FitsInput input.now → WhereCore self.old (λ r. OnOk result (MpCoreStands self.new (steps.step r input.now from).replica)) }
         ensures spent { IsErr result → IsSpent self.new }
         ensures stays_spent { IsSpent self.old → IsErr result }
     {
@@ -52,9 +53,9 @@ impl MpCore {
         // A caller that sees the error below must not continue from half a step.
         self.is_spent = true;
         step::step(&mut self.state, input, from)?;
-        let batch = self.state.take_batch();
+        self.state.move_output(out);
         self.is_spent = false;
-        Ok(batch)
+        Ok(())
     }
 
     /// Returns its ledger.

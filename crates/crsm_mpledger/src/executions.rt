@@ -11,7 +11,7 @@ use crsm_mpspec::SharedCommand;
 use std::alloc::Global;
 
 /// The execution of a slot.
-#[derive(Debug, Drop)]
+#[derive(Drop)]
 pub enum Execution {
     /// A noop was executed.
     Noop,

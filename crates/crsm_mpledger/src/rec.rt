@@ -1,15 +1,75 @@
 //! Records, written to bytes and read back.
 
-ghost use Rattle.std.specs.Prelude.{◌≡◌, ◌++◌, IfOk, OnOk};
+ghost use Rattle.std.specs.Prelude.{◌≡◌, ◌∷◌, ◌++◌, [], IfOk, OnOk};
 ghost use Rattle.std.specs.Option.{option_map};
+ghost use Rattle.crsm_base.specs.Spelling.{FitsBallot, ballot_bytes, u64_bytes};
 ghost use Rattle.crsm_mpspec.specs.Records.{rec_bytes, FitsRec};
+ghost use Rattle.crsm_mpspec.specs.declared.rec.MpRec.{MpRec as Record};
 ghost use Rattle.crsm_mpledger.specs.Reading.{promise_at, accept_at, choose_at, rec_at};
 
-use crate::value::{put_value, take_value};
-use crsm_base::{Bytes, NoMemory};
-use crsm_mpspec::MpRec;
-use crsm_text_fields::{put_ballot, put_u8, put_u64, take_ballot, take_u8, take_u64};
+use crate::value::take_value;
+use crsm_base::{Ballot, Bytes, NoMemory};
+use crsm_mpspec::{MpRec, SharedCommand};
+use crsm_text_fields::{put_ballot, put_u8, take_ballot, take_u8, take_u64};
 use std::alloc::Global;
+
+/// Encodes the kind of a record, its slot, and the tag of its value.
+#[tactic(auto, unfolding(crsm_base::specs::Spelling::u64_bytes))]
+fn slot_head(kind: u8, slot: u64, tag: u8) -> [u8; 10]
+    ensures { result ≡ kind ∷ (u64_bytes slot ++ tag ∷ []) }
+{
+    let mut cells = [kind; 10];
+    cells[1..9].copy_from_slice(&slot.to_be_bytes());
+    cells[9] = tag;
+    cells
+}
+
+/// Encodes the same with a ballot between the slot and the tag.
+#[tactic(auto, unfolding(crsm_base::specs::Spelling::u64_bytes, crsm_base::specs::Spelling::ballot_bytes))]
+fn ballot_head(kind: u8, slot: u64, ballot: Ballot, tag: u8) -> [u8; 19]
+    requires { FitsBallot ballot }
+    ensures { result ≡ kind ∷ (u64_bytes slot ++ (ballot_bytes ballot ++ tag ∷ [])) }
+{
+    let mut cells = [kind; 19];
+    cells[1..9].copy_from_slice(&slot.to_be_bytes());
+    cells[9..17].copy_from_slice(&ballot.round.to_be_bytes());
+    cells[17] = ballot.by as u8;
+    cells[18] = tag;
+    cells
+}
+
+// The fields before a command have a fixed length, so that they are appended by a single call.
+#[tactic(auto, unfolding(crsm_mpspec::specs::Records::rec_bytes))]
+fn put_accept(
+    slot: u64,
+    ballot: Ballot,
+    value: &Option<SharedCommand>,
+    out: &mut Bytes,
+) -> Result<(), NoMemory>
+    requires { FitsBallot ballot }
+    ensures { OnOk result (out.new ≡ out.old ++ rec_bytes (Record.Accept slot ballot value.now)) }
+{
+    match value {
+        None => out.append(&ballot_head(3, slot, ballot, 0)),
+        Some(command) => {
+            out.append(&ballot_head(3, slot, ballot, 1))?;
+            out.append(command.as_bytes())
+        }
+    }
+}
+
+#[tactic(auto, unfolding(crsm_mpspec::specs::Records::rec_bytes))]
+fn put_choose(slot: u64, value: &Option<SharedCommand>, out: &mut Bytes) -> Result<(), NoMemory>
+    ensures { OnOk result (out.new ≡ out.old ++ rec_bytes (Record.Choose slot value.now)) }
+{
+    match value {
+        None => out.append(&slot_head(4, slot, 0)),
+        Some(command) => {
+            out.append(&slot_head(4, slot, 1))?;
+            out.append(command.as_bytes())
+        }
+    }
+}
 
 /// Appends the encoding of a record. `NoMemory` if memory runs out.
 #[tactic(auto, unfolding(crsm_mpspec::specs::Records::rec_bytes))]
@@ -27,17 +87,8 @@ pub fn put_rec(rec: &MpRec, out: &mut Bytes) -> Result<(), NoMemory>
             slot,
             ballot,
             value,
-        } => {
-            put_u8(3, out)?;
-            put_u64(*slot, out)?;
-            put_ballot(*ballot, out)?;
-            put_value(value, out)
-        }
-        MpRec::Choose { slot, value } => {
-            put_u8(4, out)?;
-            put_u64(*slot, out)?;
-            put_value(value, out)
-        }
+        } => put_accept(*slot, *ballot, value, out),
+        MpRec::Choose { slot, value } => put_choose(*slot, value, out),
     }
 }
 

@@ -1,14 +1,14 @@
-//! The value of a slot, written to bytes and read back: a command, or nothing if the slot is a noop.
+//! The value of a slot, read back from bytes: a command, or nothing if the slot is a noop.
 
-ghost use Rattle.std.specs.Prelude.{◌≡◌, ◌++◌, IfOk, OnOk};
+ghost use Rattle.std.specs.Prelude.{◌≡◌, IfOk};
 ghost use Rattle.std.specs.Option.{option_map};
 ghost use Rattle.crsm_base.specs.Reading.{command_at};
-ghost use Rattle.crsm_base.specs.Spelling.{command_bytes, FitsCommand, option_bytes};
+ghost use Rattle.crsm_base.specs.Spelling.{FitsCommand};
 ghost use Rattle.crsm_mpledger.specs.Reading.{value_at};
 
 use crsm_base::{Bytes, Command, NoMemory};
 use crsm_mpspec::SharedCommand;
-use crsm_text_fields::{put_command, put_u8, take_command};
+use crsm_text_fields::{put_command, take_command};
 use std::alloc::Global;
 
 /// Returns a command of one owner, with its encoding. `NoMemory` if memory runs out.
@@ -19,19 +19,6 @@ pub fn share_command(alloc: Global, command: Command) -> Result<SharedCommand, N
     let mut bytes = Bytes::new(alloc);
     put_command(&command, &mut bytes)?;
     SharedCommand::new(alloc, command, bytes)
-}
-
-/// Appends the encoding of the value of a slot. `NoMemory` if memory runs out.
-pub(crate) fn put_value(value: &Option<SharedCommand>, out: &mut Bytes) -> Result<(), NoMemory>
-    ensures { OnOk result (out.new ≡ out.old ++ option_bytes command_bytes value.now) }
-{
-    match value {
-        None => put_u8(0, out),
-        Some(command) => {
-            put_u8(1, out)?;
-            out.append(command.as_bytes())
-        }
-    }
 }
 
 /// Parses a command from the prefix of the bytes, and returns it with the bytes after it. `None` if none begins there;

@@ -3,8 +3,8 @@ use Rattle.std.proofs.Common.{◌≡◌, ℕ, ◌<◌, Bool, true, false, List, 
 use Rattle.std.specs.Prelude.{◌==◌, nat_lt, cond, map, Option, if◌then◌else◌}
 use Rattle.std.specs.List.{AllByRecursion}
 use Rattle.std.specs.List.Sorted.{IsStrictlySortedBy}
-use Rattle.std.specs.Map.{keys_of, lookup}
-use Rattle.std.specs.BTreeMap.{insert_entry, is_at}
+use Rattle.std.specs.Map.{keys_of, lookup, set_value}
+use Rattle.std.specs.BTreeMap.{is_at}
 use Rattle.std.specs.Option.{option_map}
 use Rattle.std.specs.Ordering.{nat_cmp}
 use Rattle.std.specs.declared.cmp.Ordering.TheVariants.{Less, Equal, Greater}
@@ -97,22 +97,23 @@ module _ {X Y : Type 0} (g : X → Y) (f : Y → Y) (k : ℕ) where
   unchanged [] all = refl
   unchanged (e ∷ es) all = rw (less-differs k e.0 all.0) (ap (λ (xs : List (ℕ × Y)). (e.0, g e.1) ∷ xs) (unchanged es all.1))
 
-  -- a value that is inserted where there was one takes its place
-  pub inserted : (es : List (ℕ × X)) (old new : X) → IsStrictlySortedBy nat_cmp (keys_of es) → lookup (is_at (nat_cmp k)) es ≡ Some old → g new ≡ f (g old) →
-      map (λ (e : ℕ × X). (e.0, g e.1)) (insert_entry nat_cmp es k new) ≡ change_at f k (map (λ (e : ℕ × X). (e.0, g e.1)) es)
+  -- a value that is written where there was one takes its place
+  pub written : (es : List (ℕ × X)) (old new : X) → IsStrictlySortedBy nat_cmp (keys_of es) → lookup (is_at (nat_cmp k)) es ≡ Some old → g new ≡ f (g old) →
+      map (λ (e : ℕ × X). (e.0, g e.1)) (set_value (is_at (nat_cmp k)) es new) ≡ change_at f k (map (λ (e : ℕ × X). (e.0, g e.1)) es)
   unfolding change_at IsStrictlySortedBy
-  inserted [] old new sorted found is = absurd (no_some old found)
-  inserted (e ∷ es) old new sorted found is = elim (compared k e.0) [
+  written [] old new sorted found is = absurd (no_some old found)
+  written (e ∷ es) old new sorted found is = elim (compared k e.0) [
     | Below l _ n ↦
         let gone : lookup (is_at (nat_cmp k)) es ≡ Some old = subst (λ b. cond b (Some e.1) (lookup (is_at (nat_cmp k)) es) ≡ Some old) (less-not_at k e.0 l) found in
         let none = absent k es (all_more (λ q. nat_cmp e.0 q ≡ Less) (λ q. nat_cmp k q ≡ Less) (λ q. less-trans k e.0 q l) (keys_of es) sorted.0) in
         absurd (no_some old (sym none ∙ gone))
     | Same s ↦
         let here : Some e.1 ≡ Some old = subst (λ b. cond b (Some e.1) (lookup (is_at (nat_cmp k)) es) ≡ Some old) (same_at k e.0 s) found in
-        rw (same_cmp k e.0 s, same_eqb k e.0 s)
+        rw (same_at k e.0 s, same_eqb k e.0 s)
         (ap (λ (y : Y). (e.0, y) ∷ map (λ (e : ℕ × X). (e.0, g e.1)) es) (is ∙ ap (λ (x : X). f (g x)) (sym (one_some e.1 old here)))
         ∙ ap (λ (ys : List (ℕ × Y)). (e.0, f (g e.1)) ∷ ys) (unchanged es (subst (λ j. AllByRecursion (λ q. nat_cmp j q ≡ Less) (keys_of es)) (sym s) sorted.0)))
     | Above l _ n ↦
-        let further : lookup (is_at (nat_cmp k)) es ≡ Some old = subst (λ b. cond b (Some e.1) (lookup (is_at (nat_cmp k)) es) ≡ Some old) (at-key k e.0 ∙ eqb-sym e.0 k ∙ n) found in
-        rw (l, n) (ap (λ (xs : List (ℕ × Y)). (e.0, g e.1) ∷ xs) (inserted es old new sorted.1 further is))
+        let off = at-key k e.0 ∙ eqb-sym e.0 k ∙ n in
+        let further : lookup (is_at (nat_cmp k)) es ≡ Some old = subst (λ b. cond b (Some e.1) (lookup (is_at (nat_cmp k)) es) ≡ Some old) off found in
+        rw (off, n) (ap (λ (xs : List (ℕ × Y)). (e.0, g e.1) ∷ xs) (written es old new sorted.1 further is))
   ]

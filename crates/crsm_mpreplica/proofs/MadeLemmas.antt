@@ -10,8 +10,8 @@ use Rattle.crsm_mpreplica.specs.declared.made.StepOutput.{StepOutput}
 use Rattle.crsm_mpreplica.specs.Fitting.{FitsMessage}
 use Rattle.crsm_mpreplica.specs.Made.{MadeStands, Outcome, FitsSent, to_send}
 
-pub records : (m : StepOutput) (o : Outcome) (rec : MpRec) (after : List MpRec) → MadeStands m o → FitsRec rec → after ≡ m.records ++ rec ∷ []
-    → MadeStands (record m { records = after }) (record o { batch = o.batch ++ rec ∷ [] })
+pub records : (m : StepOutput) (o : Outcome) (rec : MpRec) (after : List MpRec) → MadeStands m o → FitsRec rec → after ≡ m.batch.records ++ rec ∷ []
+    → MadeStands (record m { batch = record m.batch { records = after } }) (record o { batch = o.batch ++ rec ∷ [] })
 records m o rec after s fits is = record {
   records = is ∙ ap (λ (recs : List MpRec). recs ++ rec ∷ []) s.records;
   lines = s.lines;
@@ -21,8 +21,8 @@ records m o rec after s fits is = record {
   sends_fit = s.sends_fit;
 }
 
-pub tells : (m : StepOutput) (o : Outcome) (line : MpLine) (after : List MpLine) → MadeStands m o → after ≡ m.lines ++ line ∷ []
-    → MadeStands (record m { lines = after }) (record o { lines = o.lines ++ line ∷ [] })
+pub tells : (m : StepOutput) (o : Outcome) (line : MpLine) (after : List MpLine) → MadeStands m o → after ≡ m.batch.lines ++ line ∷ []
+    → MadeStands (record m { batch = record m.batch { lines = after } }) (record o { lines = o.lines ++ line ∷ [] })
 tells m o line after s is = record {
   records = s.records;
   lines = is ∙ ap (λ (ls : List MpLine). ls ++ line ∷ []) s.lines;
@@ -33,7 +33,7 @@ tells m o line after s is = record {
 }
 
 pub sends : (m : StepOutput) (o : Outcome) (to : ℕ) (message : MpMessage) (after : List MpSend) → MadeStands m o → FitsMessage message
-    → after ≡ m.sends ++ record { to = to; message = message } ∷ [] → MadeStands (record m { sends = after }) (record o { sends = o.sends ++ (to, message) ∷ [] })
+    → after ≡ m.batch.sends ++ record { to = to; message = message } ∷ [] → MadeStands (record m { batch = record m.batch { sends = after } }) (record o { sends = o.sends ++ (to, message) ∷ [] })
 unfolding to_send
 sends m o to message after s fits is = record {
   records = s.records;
@@ -44,8 +44,8 @@ sends m o to message after s fits is = record {
   sends_fit = all-push FitsSent o.sends (to, message) s.sends_fit fits;
 }
 
-pub replied : (m : StepOutput) (o : Outcome) (line : MpLine) (after : List MpLine) → MadeStands m o → after ≡ m.replies ++ line ∷ []
-    → MadeStands (record m { replies = after }) (record o { replies = o.replies ++ line ∷ [] })
+pub replied : (m : StepOutput) (o : Outcome) (line : MpLine) (after : List MpLine) → MadeStands m o → after ≡ m.batch.replies ++ line ∷ []
+    → MadeStands (record m { batch = record m.batch { replies = after } }) (record o { replies = o.replies ++ line ∷ [] })
 replied m o line after s is = record {
   records = s.records;
   lines = s.lines;

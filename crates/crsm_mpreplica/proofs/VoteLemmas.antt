@@ -3,8 +3,8 @@ use Rattle.std.proofs.Common.{BTreeMap, Vec, Global, ◌≡◌, ℕ, suc, ◌<�
 use Rattle.std.specs.Prelude.{◌==◌, ◌&&◌, IsTrue, nat_le, not, length, map, filter, if◌then◌else◌, cond}
 use Rattle.std.specs.List.{All, AllByRecursion}
 use Rattle.std.specs.List.Sorted.{IsStrictlySortedBy}
-use Rattle.std.specs.Map.{keys_of, lookup}
-use Rattle.std.specs.BTreeMap.{insert_entry, is_at}
+use Rattle.std.specs.Map.{keys_of, lookup, set_value}
+use Rattle.std.specs.BTreeMap.{is_at}
 use Rattle.std.specs.Option.{option_map}
 use Rattle.std.specs.Ordering.{nat_cmp}
 use Rattle.std.proofs.lemmas.Bool.Decides.{nat_tests}
@@ -21,7 +21,7 @@ use Rattle.crsm_mpspec.specs.Types.{Ballot}
 use Rattle.crsm_mpreplica.specs.declared.note.Leading.{Leading}
 use Rattle.crsm_mpreplica.specs.declared.note.Note.{Note}
 use Rattle.crsm_mpreplica.specs.Notes.{IsLeading, NoteStands, awaits_vote, open_of, with_voters}
-use Rattle.crsm_mpreplica.proofs.KeyLemmas.{at-key, change_at, eqb-sym, get-mapped, inserted, one_some, same_eqb}
+use Rattle.crsm_mpreplica.proofs.KeyLemmas.{at-key, change_at, eqb-sym, get-mapped, one_some, same_eqb, written}
 
 -- ---- who voted, and where
 
@@ -139,7 +139,7 @@ slots-same me slot k votes other = slots-more me slot k votes ∙ rw (other) (ap
 -- the vote of another replica at an open slot
 pub voted : (l : Leading) (rest : BTreeMap ℕ (Vec ℕ Global)) (w more : Vec ℕ Global) (slot k me : ℕ) (log : Log) (b : Ballot) (next : ℕ) (votes : List (ℕ × ℕ))
     → IsLeading l me log b next votes → IsStrictlySortedBy nat_cmp (keys_of l.open.entries) → lookup (is_at (nat_cmp slot)) l.open.entries ≡ Some w
-    → has (slots_of me votes) slot ≡ true → (k == me) ≡ false → more.items ≡ w.items ++ k ∷ [] → rest.entries ≡ insert_entry nat_cmp l.open.entries slot more
+    → has (slots_of me votes) slot ≡ true → (k == me) ≡ false → more.items ≡ w.items ++ k ∷ [] → rest.entries ≡ set_value (is_at (nat_cmp slot)) l.open.entries more
     → IsLeading (record l { «open» = rest }) me log b next (votes ++ (slot, k) ∷ [])
 unfolding open_of
 voted l rest w more slot k me log b next votes s sorted found mine other pushed is =
@@ -149,7 +149,7 @@ voted l rest w more slot k me log b next votes s sorted found mine other pushed 
       next_is = s.next_is;
       open_are =
           ap (map (λ (e : ℕ × Vec ℕ Global). (e.0, e.1.items))) is
-          ∙ inserted (λ (w : Vec ℕ Global). w.items) (λ (ks : List ℕ). ks ++ k ∷ []) slot l.open.entries w more sorted found pushed
+          ∙ written (λ (w : Vec ℕ Global). w.items) (λ (ks : List ℕ). ks ++ k ∷ []) slot l.open.entries w more sorted found pushed
           ∙ ap (change_at (λ (ks : List ℕ). ks ++ k ∷ []) slot) s.open_are
           ∙ voted-all slot k votes (open_of me log votes)
           ∙ ap (λ (ss : List ℕ). map (with_voters (votes ++ (slot, k) ∷ [])) (filter (λ s. not (is_chosen s log)) ss)) (sym same);
@@ -239,7 +239,7 @@ uncounted slot k r votes none e = absurd (true≢false (sym e ∙ ap (λ (vs : L
 
 pub added : (l : Leading) (rest : BTreeMap ℕ (Vec ℕ Global)) (w more : Vec ℕ Global) (slot k : ℕ) (r : Replica) (p : NoteOnPaper) → NoteStands (Note.Leading l) r.me r.log p
     → counts slot k (votes_of p) r ≡ true → IsStrictlySortedBy nat_cmp (keys_of l.open.entries) → lookup (is_at (nat_cmp slot)) l.open.entries ≡ Some w
-    → more.items ≡ w.items ++ k ∷ [] → rest.entries ≡ insert_entry nat_cmp l.open.entries slot more
+    → more.items ≡ w.items ++ k ∷ [] → rest.entries ≡ set_value (is_at (nat_cmp slot)) l.open.entries more
     → NoteStands (Note.Leading (record l { «open» = rest })) r.me r.log (with_vote slot k p)
 unfolding counts votes_of with_vote
 added l rest w more slot k r (NoteOnPaper.Leading a start next reports votes) s counting sorted found pushed is =

@@ -33,10 +33,10 @@ outcome_of x = record { batch = x.batch; lines = x.lines; sends = x.sends; repli
 
 -- The step has made this, and each record and message of it fits.
 pub record MadeStands (made : StepOutput) (o : Outcome) : Type 0 where
-  pub records : made.records ≡ o.batch
-  pub lines : made.lines ≡ o.lines
-  pub sends : made.sends ≡ map to_send o.sends
-  pub replies : made.replies ≡ o.replies
+  pub records : made.batch.records ≡ o.batch
+  pub lines : made.batch.lines ≡ o.lines
+  pub sends : made.batch.sends ≡ map to_send o.sends
+  pub replies : made.batch.replies ≡ o.replies
   pub records_fit : AllByRecursion FitsRec o.batch
   pub sends_fit : AllByRecursion FitsSent o.sends
 

@@ -62,7 +62,7 @@ impl MpReplica {
         if self.ledger.is_chosen(slot) {
             return Ok(());
         }
-        let mut voters = Vec::new(self.alloc);
+        let mut voters = Vec::with_capacity(self.alloc, self.n as usize)?;
         voters.push(self.me)?;
         if let Note::Leading(leading) = &mut self.note {
             push_slot(&mut leading.open, slot, voters)?;
@@ -100,10 +100,8 @@ impl MpReplica {
         ensures { MakesWhere (λ x. deciding.counts slot from (votes_of x.replica.note) x.replica ≡ true) (drafts.count_vote slot from) self.old result self.new }
     {
         if let Note::Leading(leading) = &mut self.note {
-            if let Some(voters) = leading.open.get(&slot) {
-                let mut more = Vec::from_slice(self.alloc, voters.as_slice())?;
-                more.push(from)?;
-                leading.open.insert(slot, more)?;
+            if let Some(voters) = leading.open.get_mut(&slot) {
+                voters.push(from)?;
             }
         }
         Ok(())

@@ -12,7 +12,7 @@ use crsm_mpspec::{MpAccepts, MpChoices};
 use std::collections::BTreeMap;
 
 /// The report that a replica sent with its promise.
-#[derive(Debug, Drop)]
+#[derive(Drop)]
 pub struct MpReport {
     pub accepted: MpAccepts,
     pub chosen: MpChoices,

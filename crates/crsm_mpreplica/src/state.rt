@@ -95,11 +95,11 @@ impl MpReplica {
         &self.note
     }
 
-    /// Returns the output of the step and leaves the empty one.
-    pub fn take_batch(&mut self) -> MpBatch
-        ensures out { WhereStands self.old (λ x. Answers result (outcome_of x)) }
+    /// Moves the output of the step to `out`, and leaves the empty one in the memory of what was there.
+    pub fn move_output(&mut self, out: &mut MpBatch)
+        ensures out { WhereStands self.old (λ x. Answers out.new (outcome_of x)) }
         ensures none { WhereStands self.old (λ x. MpReplicaStands self.new (drafts.begun x.replica)) }
     {
-        self.made.take()
+        self.made.move_to(out);
     }
 }

@@ -9,7 +9,7 @@ use std::marker::Model;
 use std::rc::Rc;
 
 /// A value that was accepted at a slot, with the ballot.
-#[derive(Debug, Drop)]
+#[derive(Drop)]
 pub struct MpAccepted {
     pub slot: u64,
     pub ballot: Ballot,
@@ -17,7 +17,7 @@ pub struct MpAccepted {
 }
 
 /// A list of the values that a replica has accepted from a slot on, by slot.
-#[derive(Debug, Drop)]
+#[derive(Drop)]
 pub struct MpAccepts {
     items: Rc<Vec<MpAccepted>>,
 }

@@ -9,14 +9,14 @@ use std::marker::Model;
 use std::rc::Rc;
 
 /// The value of a slot that is known to be chosen.
-#[derive(Debug, Drop)]
+#[derive(Drop)]
 pub struct MpChosen {
     pub slot: u64,
     pub value: Option<SharedCommand>,
 }
 
 /// A list of the values that a replica knows to be chosen from a slot on, by slot.
-#[derive(Debug, Drop)]
+#[derive(Drop)]
 pub struct MpChoices {
     items: Rc<Vec<MpChosen>>,
 }

@@ -4,7 +4,7 @@ use crate::message::MpMessage;
 use crate::shared::SharedCommand;
 
 /// The input of one step.
-#[derive(Debug, Drop)]
+#[derive(Drop)]
 pub enum MpInput {
     /// A client's command.
     Request { command: SharedCommand },

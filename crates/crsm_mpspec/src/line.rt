@@ -15,7 +15,7 @@ pub enum MpKind {
 }
 
 /// A line of the transcript, without its line number.
-#[derive(Debug, Drop)]
+#[derive(Drop)]
 pub enum MpLine {
     /// A boot, with the number of boots of the replica.
     Boot {

@@ -8,7 +8,7 @@ use std::alloc::Global;
 use std::marker::Model;
 
 /// A list of lines of a transcript.
-#[derive(Debug, Drop)]
+#[derive(Drop)]
 pub struct MpLines {
     items: Vec<MpLine>,
 }

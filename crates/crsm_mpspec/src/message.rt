@@ -9,7 +9,7 @@ use crate::value::share_value;
 use crsm_base::{Ballot, NoMemory};
 
 /// A message from one replica to another.
-#[derive(Debug, Drop)]
+#[derive(Drop)]
 pub enum MpMessage {
     /// Asks for a promise of the ballot, and for all values accepted or chosen from a slot on.
     Prep {

@@ -4,7 +4,7 @@ use crate::shared::SharedCommand;
 use crsm_base::Ballot;
 
 /// A record of a replica's log.
-#[derive(Debug, Drop)]
+#[derive(Drop)]
 pub enum MpRec {
     /// The replica boots.
     Boot,

@@ -8,7 +8,7 @@ use std::alloc::Global;
 use std::marker::Model;
 
 /// A list of records, as in a log body.
-#[derive(Debug, Drop)]
+#[derive(Drop)]
 pub struct MpRecs {
     items: Vec<MpRec>,
 }
@@ -51,6 +51,13 @@ impl MpRecs {
     {
         self.items.append(&mut other.items)?;
         Ok(())
+    }
+
+    /// Removes all records, and keeps the memory for further ones.
+    pub fn clear(&mut self)
+        ensures { self.new ≡ [] }
+    {
+        self.items.clear();
     }
 
     /// Returns the records in order.

@@ -3,7 +3,7 @@
 use crate::message::MpMessage;
 
 /// A message to be sent to a replica.
-#[derive(Debug, Drop)]
+#[derive(Drop)]
 pub struct MpSend {
     /// The number of the receiver.
     pub to: u32,

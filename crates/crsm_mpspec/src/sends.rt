@@ -1,16 +1,17 @@
 //! Lists of messages to be sent.
 
-ghost use Rattle.std.specs.Prelude.{◌≡◌, [], ◌∷◌, ◌++◌, take, OnOk, OnErr};
+ghost use Rattle.std.specs.Prelude.{◌≡◌, [], ◌∷◌, ◌++◌, None, length, take, IfSome, OnOk, OnErr};
 
 use crate::send::MpSend;
 use crsm_base::NoMemory;
 use std::alloc::Global;
+use std::collections::VecDeque;
 use std::marker::Model;
 
 /// A list of messages to be sent, in order.
-#[derive(Debug, Drop)]
+#[derive(Drop)]
 pub struct MpSends {
-    items: Vec<MpSend>,
+    items: VecDeque<MpSend>,
 }
 
 impl Model for MpSends {
@@ -28,7 +29,7 @@ impl MpSends {
         ensures { result ≡ [] }
     {
         MpSends {
-            items: Vec::new(alloc),
+            items: VecDeque::new(alloc),
         }
     }
 
@@ -37,27 +38,24 @@ impl MpSends {
         ensures ok { OnOk result (self.new ≡ self.old ++ item ∷ []) }
         ensures err { OnErr result (self.new ≡ self.old) }
     {
-        self.items.push(item)?;
+        self.items.push_back(item)?;
         Ok(())
     }
 
-    /// Moves the messages of another list to the end of this one. `NoMemory` if memory runs out; both are then
-    /// unchanged.
-    pub fn append(&mut self, other: &mut MpSends) -> Result<(), NoMemory>
-        ensures ok { OnOk result (self.new ≡ self.old ++ other.old) }
-        ensures emptied { OnOk result (other.new ≡ []) }
-        ensures err { OnErr result (self.new ≡ self.old) }
-        ensures kept { OnErr result (other.new ≡ other.old) }
+    /// Returns the number of messages.
+    pub fn len(&self) -> usize
+        ensures { result ≡ length self.now }
     {
-        self.items.append(&mut other.items)?;
-        Ok(())
+        self.items.len()
     }
 
-    /// Returns the messages in order.
-    pub fn as_slice(&self) -> &[MpSend]
-        ensures { result.now ≡ self.now }
+    /// Removes and returns the first message. The memory is kept for further ones.
+    pub fn pop_first(&mut self) -> Option<MpSend>
+        ensures first { IfSome result (λ item. self.old ≡ item ∷ self.new) }
+        ensures none { result ≡ None → self.old ≡ [] }
+        ensures empty { result ≡ None → self.new ≡ [] }
     {
-        self.items.as_slice()
+        self.items.pop_front()
     }
 
     /// Keeps the first `count` messages, and removes the others.
@@ -67,10 +65,10 @@ impl MpSends {
         self.items.truncate(count);
     }
 
-    /// Returns the messages in order, as a vector.
-    pub fn into_items(self) -> Vec<MpSend>
-        ensures { result.items ≡ self }
+    /// Removes all messages, and keeps the memory for further ones.
+    pub fn clear(&mut self)
+        ensures { self.new ≡ [] }
     {
-        self.items
+        self.items.clear();
     }
 }

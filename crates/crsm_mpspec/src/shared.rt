@@ -9,7 +9,7 @@ use std::marker::Model;
 use std::rc::Rc;
 
 /// A command and its encoding.
-#[derive(Debug, Drop)]
+#[derive(Drop)]
 struct Encoded {
     command: Command,
     bytes: Bytes,
@@ -17,7 +17,7 @@ struct Encoded {
 
 /// A command that is kept and encoded once for all its owners: records, messages and replicas. A contract sees the
 /// command.
-#[derive(Debug, Drop)]
+#[derive(Drop)]
 pub struct SharedCommand {
     encoded: Rc<Encoded>,
 }

@@ -9,6 +9,7 @@ use Rattle.crsm_mpspec.specs.World.{Site, World, Moment, Ending, whole_step, cut
 use Rattle.crsm_mpspec.specs.Moments.{silent, begun_at, step_at, world_after, lines_of}
 use Rattle.crsm_mpworld.specs.declared.ending.MpEffects.{MpEffects}
 use Rattle.crsm_mpworld.specs.declared.network.MpNetwork.{MpNetwork}
+use Rattle.crsm_mpworld.specs.declared.site.MpStep.{MpStep}
 use Rattle.crsm_mpworld.specs.declared.sites.Sites.{Sites}
 use Rattle.crsm_mpworld.specs.declared.world.MpWorld.{MpWorld}
 use Rattle.crsm_mpworld.specs.Effects.{LetsOut, Leaves, LeadsOn, WorldLeadsOn}
@@ -59,12 +60,12 @@ leads_on m w before lines e h = record { after = record { n = h.count; sites = h
 
 -- ---- what is left
 
-pub leaves_as : (m n : Moment) (v : World) (l : MpEffects) (s : Sites) → m ≡ n → Leaves n v l s → Leaves m v l s
-leaves_as m n v l s e h = subst (λ (x : Moment). Leaves x v l s) (sym e) h
+pub leaves_as : (m n : Moment) (v : World) (l : MpEffects) (t : MpStep) (s : Sites) → m ≡ n → Leaves n v l t s → Leaves m v l t s
+leaves_as m n v l t s e h = subst (λ (x : Moment). Leaves x v l t s) (sym e) h
 
-pub leaves_here : (ends : Ending) (v : World) (k j : ℕ) (input : MpInput) (from : ℕ) (l : MpEffects) (s : Sites) (u : IsUp v.sites k j) → Leaves (ends v j (step u.replica input from)) v l s → Leaves (step_at ends v k input from) v l s
-leaves_here ends v k j input from l s u h =
-    leaves_as (step_at ends v k input from) (ends v j (step u.replica input from)) v l s (step_here ends v k input from u.replica u.up ∙ ap (λ i. ends v i (step u.replica input from)) (sym u.number)) h
+pub leaves_here : (ends : Ending) (v : World) (k j : ℕ) (input : MpInput) (from : ℕ) (l : MpEffects) (t : MpStep) (s : Sites) (u : IsUp v.sites k j) → Leaves (ends v j (step u.replica input from)) v l t s → Leaves (step_at ends v k input from) v l t s
+leaves_here ends v k j input from l t s u h =
+    leaves_as (step_at ends v k input from) (ends v j (step u.replica input from)) v l t s (step_here ends v k input from u.replica u.up ∙ ap (λ i. ends v i (step u.replica input from)) (sym u.number)) h
 
 -- ---- whole acts
 

@@ -49,21 +49,21 @@ WhereMade network step P =
 
 -- ---- what is left of a step
 
--- The effects lead to the moment at which they are sent, and the sites are already in that state.
-abbrev pub Leaves : Moment → World → MpEffects → Sites → Type 0
-Leaves m v effects.Nothing sites = (m ≡ silent v v) × StandFor sites v.n v.sites
-Leaves m v (effects.Whole k step) sites =
+-- The effects of this step lead to the moment at which they are sent, and the sites are already in that state.
+abbrev pub Leaves : Moment → World → MpEffects → MpStep → Sites → Type 0
+Leaves m v effects.Nothing step sites = (m ≡ silent v v) × StandFor sites v.n v.sites
+Leaves m v (effects.Whole k) step sites =
     (x : Draft) × (m ≡ whole_step v k x) × Makes step x × StandFor sites v.n (slice_set v.sites k (Site.Up x.replica))
-Leaves m v (effects.Cut k step count) sites =
+Leaves m v (effects.Cut k count) step sites =
     (x : Draft) × (m ≡ cut_step count v k x) × Makes step x × StandFor sites v.n (slice_set v.sites k (Site.Down x.replica.log))
-Leaves m v (effects.Down k) sites =
+Leaves m v (effects.Down k) step sites =
     (p : Site) × (m ≡ down v k) × (slice_get v.sites k ≡ Some p) × StandFor sites v.n (slice_set v.sites k (Site.Down (log_of p)))
 
 -- each message of the step has an encoding
-abbrev pub FitsEffects : MpEffects → Type 0
-FitsEffects (effects.Whole k step) = AllByRecursion FitsSend step.batch.sends
-FitsEffects (effects.Cut k step count) = AllByRecursion FitsSend step.batch.sends
-FitsEffects _ = Unit {0}
+abbrev pub FitsEffects : MpEffects → MpStep → Type 0
+FitsEffects (effects.Whole k) step = AllByRecursion FitsSend step.batch.sends
+FitsEffects (effects.Cut k count) step = AllByRecursion FitsSend step.batch.sends
+FitsEffects _ step = Unit {0}
 
 -- for a world of the definitions that has these sites
 abbrev pub WhereSites : Sites → (World → Type 0) → Type 0
@@ -75,9 +75,9 @@ WhereUpIn sites k P = (v : World) (r : Replica) → StandFor sites v.n v.sites �
 
 -- for the moment to which the effects lead, from a world with the packets of the network, and for the sites that are as
 -- then
-abbrev pub WhereLeft : MpNetwork → MpEffects → (Moment → World → Sites → Type 0) → Type 0
-WhereLeft network effects P =
-    (m : Moment) (v : World) (sites : Sites) → MpNetworkStands network v.packets v.bytes → Leaves m v effects sites → P m v sites
+abbrev pub WhereLeft : MpNetwork → MpEffects → MpStep → (Moment → World → Sites → Type 0) → Type 0
+WhereLeft network effects step P =
+    (m : Moment) (v : World) (sites : Sites) → MpNetworkStands network v.packets v.bytes → Leaves m v effects step sites → P m v sites
 
 -- ---- what an event comes to
 

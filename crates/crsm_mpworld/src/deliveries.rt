@@ -19,6 +19,7 @@ use crsm_base::{Command, NoMemory};
 use crsm_mpledger::share_command;
 use crsm_mpspec::{MpInput, MpLines};
 use crsm_schedule::Single;
+use std::mem;
 
 impl MpWorld {
     /// Runs a step of replica `k` on an input that is not a message, and ends it as `ending` says. Nothing happens if
@@ -35,8 +36,8 @@ impl MpWorld {
         ensures { OnOk result (WhereHolds self.old (λ v.
             WorldLeadsOn (moments.step_at (ending_of ending) v k input.now 0) self.new lines.old lines.new)) }
     {
-        let effects = self.sites.arrive(k, ending, input, 0)?;
-        leave(&mut self.network, effects, lines)?;
+        let effects = self.sites.arrive(k, ending, input, 0, &mut self.made)?;
+        leave(&mut self.network, effects, &mut self.made, lines)?;
         Ok(())
     }
 
@@ -49,10 +50,14 @@ impl MpWorld {
         let Some(packet) = self.network.get(number) else {
             return Ok(());
         };
-        let effects = self
-            .sites
-            .arrive(u64::from(packet.to), ending, &packet.input, packet.from)?;
-        leave(&mut self.network, effects, lines)?;
+        let effects = self.sites.arrive(
+            u64::from(packet.to),
+            ending,
+            &packet.input,
+            packet.from,
+            &mut self.made,
+        )?;
+        leave(&mut self.network, effects, &mut self.made, lines)?;
         Ok(())
     }
 
@@ -150,9 +155,13 @@ impl MpWorld {
     pub(crate) fn settle(&mut self) -> Result<MpLines, NoMemory>
         ensures { IfOk result (λ lines. WhereHolds self.old (λ v. (reading : ℕ) → Leads (moments.act v (Act.Settle reading)) self.new lines)) }
     {
-        let ups = self.sites.ups()?;
-        let due = self.network.due(&ups)?;
+        let old_ups = mem::replace(&mut self.spare_ups, Vec::new(self.alloc));
+        let old_due = mem::replace(&mut self.spare_due, Vec::new(self.alloc));
+        let ups = self.sites.ups(old_ups)?;
+        let due = self.network.due(&ups, old_due)?;
         let lines = self.deliver_each(&due)?;
+        self.spare_ups = ups;
+        self.spare_due = due;
         Ok(lines)
     }
 }

@@ -1,7 +1,5 @@
 //! The ending of a step, and its effects before they are sent and written.
 
-use crate::site::MpStep;
-
 /// How a step of a replica ends.
 #[derive(Clone, Copy)]
 pub(crate) enum MpEnding {
@@ -13,15 +11,16 @@ pub(crate) enum MpEnding {
     Lost,
 }
 
-/// The effects of an input at a replica, before its messages are sent and its lines are written.
-#[derive(Drop)]
+/// The effects of an input at a replica, before its messages are sent and its lines are written. The output of its step
+/// is beside them.
+#[derive(Clone, Copy)]
 pub(crate) enum MpEffects {
     /// None: the replica was down.
     Nothing,
     /// All output of the step.
-    Whole { k: u32, step: MpStep },
+    Whole { k: u32 },
     /// The first `sends` messages and replies of the step. The replica is down.
-    Cut { k: u32, step: MpStep, sends: u64 },
+    Cut { k: u32, sends: u64 },
     /// None: the replica is down.
     Down { k: u32 },
 }

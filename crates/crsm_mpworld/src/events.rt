@@ -38,7 +38,7 @@ impl MpWorld {
             return Ok(lines);
         };
         let effects = self.sites.go_down(k)?;
-        leave(&mut self.network, effects, &mut lines)?;
+        leave(&mut self.network, effects, &mut self.made, &mut lines)?;
         Ok(lines)
     }
 

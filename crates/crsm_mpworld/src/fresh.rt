@@ -88,27 +88,28 @@ impl MpNetwork {
         Ok(())
     }
 
-    /// Returns the candidates that can be delivered.
-    fn still_due(&self) -> Result<Vec<u64>, NoMemory>
+    /// Returns the candidates that can be delivered, in the memory of another list.
+    fn still_due(&self, memory: Vec<u64>) -> Result<Vec<u64>, NoMemory>
         ensures { IfOk result (λ due. WhereNetwork self.now (λ packets bytes.
             due.items ≡ filter (is_fresh_for (is_up_among self.now.ups.items) packets) self.now.near.items)) }
     {
-        let mut due = Vec::with_capacity(self.alloc, self.near.len())?;
+        let mut due = memory;
+        due.clear();
         for number in &self.near {
             self.add_due(*number, &mut due)?;
         }
         Ok(due)
     }
 
-    /// Returns the numbers of the fresh messages whose receivers are up, in ascending order. `ups` says of each replica
-    /// whether it is up.
-    pub(crate) fn due(&mut self, ups: &[bool]) -> Result<Vec<u64>, NoMemory>
+    /// Returns the numbers of the fresh messages whose receivers are up, in ascending order and in the memory of another
+    /// list. `ups` says of each replica whether it is up.
+    pub(crate) fn due(&mut self, ups: &[bool], memory: Vec<u64>) -> Result<Vec<u64>, NoMemory>
         ensures stands { OnOk result (WhereNetwork self.old (λ packets bytes. MpNetworkStands self.new packets bytes)) }
         ensures due { IfOk result (λ due. WhereNetwork self.old (λ packets bytes.
             due.items ≡ filter (is_fresh_for (is_up_among ups.now) packets) (numbers_of packets))) }
     {
         self.see(ups)?;
-        let due = self.still_due()?;
+        let due = self.still_due(memory)?;
         self.near.clear();
         self.near.extend_from_slice(due.as_slice())?;
         Ok(due)

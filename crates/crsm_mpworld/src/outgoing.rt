@@ -35,18 +35,18 @@ fn send_one(
     Ok(())
 }
 
-/// Records messages from replica `k` in order, and appends their lines.
+/// Takes these messages from replica `k` out in order, records them, and appends their lines.
 fn send_all(
     network: &mut MpNetwork,
     k: u32,
-    sends: MpSends,
+    sends: &mut MpSends,
     lines: &mut MpLines,
 ) -> Result<(), NoMemory>
-    requires { AllByRecursion FitsSend sends }
-    ensures { OnOk result (WhereNetwork network.old (λ packets bytes. (out : List (ℕ × Message)) → sends ≡ map to_send out →
+    requires { AllByRecursion FitsSend sends.old }
+    ensures { OnOk result (WhereNetwork network.old (λ packets bytes. (out : List (ℕ × Message)) → sends.old ≡ map to_send out →
         HasSent k out packets bytes lines.old network.new lines.new)) }
 {
-    for send in sends.into_items() {
+    while let Some(send) = sends.pop_first() {
         send_one(network, k, send, lines)?;
     }
     Ok(())
@@ -57,25 +57,23 @@ fn send_all(
 fn let_out(
     network: &mut MpNetwork,
     k: u32,
-    step: MpStep,
+    step: &mut MpStep,
     count: u64,
     lines: &mut MpLines,
 ) -> Result<(), NoMemory>
-    requires fits { AllByRecursion FitsSend step.batch.sends }
+    requires fits { AllByRecursion FitsSend step.old.batch.sends }
     requires room { IsOpen network.old }
-    ensures { OnOk result (WhereMade network.old step (λ packets bytes x. LetsOutSome count lines.old packets bytes k x network.new lines.new)) }
+    ensures { OnOk result (WhereMade network.old step.old (λ packets bytes x. LetsOutSome count lines.old packets bytes k x network.new lines.new)) }
 {
-    let MpStep { batch, size } = step;
-    let mut own = batch.lines;
-    let mut sends = batch.sends;
-    let mut replies = batch.replies;
-    let made = sends.as_slice().len() as u64;
-    network.keep(size);
-    lines.append(&mut own)?;
-    sends.truncate(count.min(made) as usize);
-    send_all(network, k, sends, lines)?;
-    replies.truncate(count.saturating_sub(made) as usize);
-    lines.append(&mut replies)?;
+    let made = step.batch.sends.len() as u64;
+    network.keep(step.size);
+    lines.append(&mut step.batch.lines)?;
+    step.batch.sends.truncate(count.min(made) as usize);
+    send_all(network, k, &mut step.batch.sends, lines)?;
+    step.batch
+        .replies
+        .truncate(count.saturating_sub(made) as usize);
+    lines.append(&mut step.batch.replies)?;
     Ok(())
 }
 
@@ -83,40 +81,38 @@ fn let_out(
 fn let_all_out(
     network: &mut MpNetwork,
     k: u32,
-    step: MpStep,
+    step: &mut MpStep,
     lines: &mut MpLines,
 ) -> Result<(), NoMemory>
-    requires fits { AllByRecursion FitsSend step.batch.sends }
+    requires fits { AllByRecursion FitsSend step.old.batch.sends }
     requires room { IsOpen network.old }
-    ensures { OnOk result (WhereMade network.old step (λ packets bytes x. LetsOut lines.old packets bytes k x x.sends x.replies network.new lines.new)) }
+    ensures { OnOk result (WhereMade network.old step.old (λ packets bytes x. LetsOut lines.old packets bytes k x x.sends x.replies network.new lines.new)) }
 {
-    let MpStep { batch, size } = step;
-    let mut own = batch.lines;
-    let mut replies = batch.replies;
-    network.keep(size);
-    lines.append(&mut own)?;
-    send_all(network, k, batch.sends, lines)?;
-    lines.append(&mut replies)?;
+    network.keep(step.size);
+    lines.append(&mut step.batch.lines)?;
+    send_all(network, k, &mut step.batch.sends, lines)?;
+    lines.append(&mut step.batch.replies)?;
     Ok(())
 }
 
-/// Sends the effects of an input and appends their lines.
+/// Sends the effects of an input, whose step is `step`, and appends their lines.
 pub(crate) fn leave(
     network: &mut MpNetwork,
     effects: MpEffects,
+    step: &mut MpStep,
     lines: &mut MpLines,
 ) -> Result<(), NoMemory>
-    requires fits { FitsEffects effects }
+    requires fits { FitsEffects effects step.old }
     requires room { IsOpen network.old }
-    ensures { OnOk result (WhereLeft network.old effects (λ m v sites. LeadsOn m v.n sites network.new lines.old lines.new)) }
+    ensures { OnOk result (WhereLeft network.old effects step.old (λ m v sites. LeadsOn m v.n sites network.new lines.old lines.new)) }
 {
     match effects {
         MpEffects::Nothing => Ok(()),
-        MpEffects::Whole { k, step } => {
+        MpEffects::Whole { k } => {
             let_all_out(network, k, step, lines)?;
             Ok(())
         }
-        MpEffects::Cut { k, step, sends } => {
+        MpEffects::Cut { k, sends } => {
             let_out(network, k, step, sends, lines)?;
             lines.push(MpLine::Down { replica: k })?;
             Ok(())

@@ -24,12 +24,24 @@ use crsm_mpledger::put_body;
 use crsm_mpspec::{MpBatch, MpInput, MpRec};
 use std::alloc::Global;
 
-/// The output of a step, and the length of its log body in bytes.
+/// The output of a step, and the length of its log body in bytes. The next step uses its memory.
 #[derive(Drop)]
 pub(crate) struct MpStep {
     pub(crate) batch: MpBatch,
     pub(crate) size: u64,
     ghost small: { size < 2 ^ 63 },
+}
+
+impl MpStep {
+    /// Returns the step without output.
+    pub(crate) fn new(alloc: Global) -> MpStep
+        ensures { result.size ≡ 0 }
+    {
+        MpStep {
+            batch: MpBatch::new(alloc),
+            size: 0,
+        }
+    }
 }
 
 /// Memory in bytes reserved for a log body; few bodies are longer.
@@ -117,27 +129,33 @@ impl Running {
         executed_by(&self.core)
     }
 
-    /// Runs one step and makes its records durable.
-    pub(crate) fn step(&mut self, input: &MpInput, from: u32) -> Result<MpStep, NoMemory>
+    /// Runs one step and makes its records durable. Its output replaces that in `made`.
+    pub(crate) fn step(
+        &mut self,
+        input: &MpInput,
+        from: u32,
+        made: &mut MpStep,
+    ) -> Result<(), NoMemory>
         requires { FitsInput input.now }
-        ensures fits { IfOk result (λ step. AllByRecursion FitsSend step.batch.sends) }
-        ensures steps { IfOk result (λ step. WhereUpAs self.old (λ r.
-            Makes step (steps.step r input.now from) × IsUpAs self.new (steps.step r input.now from).replica)) }
+        ensures fits { OnOk result (AllByRecursion FitsSend made.new.batch.sends) }
+        ensures steps { OnOk result (WhereUpAs self.old (λ r.
+            Makes made.new (steps.step r input.now from) × IsUpAs self.new (steps.step r input.now from).replica)) }
     {
         if self.is_spent {
             return Err(NoMemory);
         }
         // A caller that sees an error below must not continue from half a step.
         self.is_spent = true;
-        let batch = self.core.step(input, from)?;
+        self.core.step(input, from, &mut made.batch)?;
         let size = keep_records(
             self.alloc,
             &mut self.log,
-            batch.records.as_slice(),
+            made.batch.records.as_slice(),
             &mut self.body,
         )?;
+        made.size = size;
         self.is_spent = false;
-        Ok(MpStep { batch, size })
+        Ok(())
     }
 
     /// Takes the replica down.

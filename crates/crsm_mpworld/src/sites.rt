@@ -81,11 +81,12 @@ impl Sites {
         Some(k as u32)
     }
 
-    /// Returns for each replica whether it is up, by number.
-    pub(crate) fn ups(&self) -> Result<Vec<bool>, NoMemory>
+    /// Returns for each replica whether it is up, by number, in the memory of another list.
+    pub(crate) fn ups(&self, memory: Vec<bool>) -> Result<Vec<bool>, NoMemory>
         ensures { IfOk result (λ ups. WhereSitesStand self.now (λ n places. ups.items ≡ map on_paper.is_up places)) }
     {
-        let mut ups = Vec::new(self.alloc);
+        let mut ups = memory;
+        ups.clear();
         for site in &self.items {
             ups.push(site.is_up())?;
         }
@@ -110,16 +111,22 @@ impl Sites {
         Ok(())
     }
 
-    /// Runs one step of a replica that is up.
-    pub(crate) fn step(&mut self, k: u32, input: &MpInput, from: u32) -> Result<MpStep, NoMemory>
+    /// Runs one step of a replica that is up. Its output replaces that in `made`.
+    pub(crate) fn step(
+        &mut self,
+        k: u32,
+        input: &MpInput,
+        from: u32,
+        made: &mut MpStep,
+    ) -> Result<(), NoMemory>
         requires fits { FitsInput input.now }
         requires up { CanStep self.old k }
         ensures one { IsOne self.new k }
-        ensures fits { IfOk result (λ step. AllByRecursion FitsSend step.batch.sends) }
-        ensures steps { IfOk result (λ step. WhereUp self.old k (λ n places r. StepsTo step (steps.step r input.now from) self.new n places k)) }
+        ensures fits { OnOk result (AllByRecursion FitsSend made.new.batch.sends) }
+        ensures steps { OnOk result (WhereUp self.old k (λ n places r. StepsTo made.new (steps.step r input.now from) self.new n places k)) }
     {
-        let step = self.items[k as usize].step(input, from)?;
-        Ok(step)
+        self.items[k as usize].step(input, from, made)?;
+        Ok(())
     }
 
     /// Returns the final line of each replica.

@@ -114,16 +114,21 @@ impl Site {
         }
     }
 
-    /// Runs one step of the replica, which must be up.
-    pub(crate) fn step(&mut self, input: &MpInput, from: u32) -> Result<MpStep, NoMemory>
+    /// Runs one step of the replica, which must be up. Its output replaces that in `made`.
+    pub(crate) fn step(
+        &mut self,
+        input: &MpInput,
+        from: u32,
+        made: &mut MpStep,
+    ) -> Result<(), NoMemory>
         requires fits { FitsInput input.now }
         requires up { IsNotDown self.old.place }
-        ensures fits { IfOk result (λ step. AllByRecursion FitsSend step.batch.sends) }
-        ensures steps { IfOk result (λ step. WhereSiteIsUp self.old (λ me n r.
-            Makes step (steps.step r input.now from) × SiteStands self.new me n (on_paper.Site.Up (steps.step r input.now from).replica))) }
+        ensures fits { OnOk result (AllByRecursion FitsSend made.new.batch.sends) }
+        ensures steps { OnOk result (WhereSiteIsUp self.old (λ me n r.
+            Makes made.new (steps.step r input.now from) × SiteStands self.new me n (on_paper.Site.Up (steps.step r input.now from).replica))) }
     {
         match &mut self.place {
-            SiteState::Up(running) => Ok(running.step(input, from)?),
+            SiteState::Up(running) => Ok(running.step(input, from, made)?),
             SiteState::Down(_) => unreachable!(),
             SiteState::Spent => Err(NoMemory),
         }

@@ -9,6 +9,7 @@ ghost use Rattle.crsm_mpworld.specs.Doing.{act_of, cause_of};
 ghost use Rattle.crsm_mpworld.specs.World.{IsSpent, MpWorldStands, WhereStands, WhereHolds, Holds};
 
 use crate::network::MpNetwork;
+use crate::site::MpStep;
 use crate::sites::Sites;
 use crsm_base::NoMemory;
 use crsm_mpspec::{MpBad, MpLines};
@@ -27,6 +28,11 @@ pub struct MpWorld {
     is_spent: bool,
     /// Lines that were taken back: only their memory is used.
     spare: MpLines,
+    /// The lists of the last `settle`: only their memory is used.
+    pub(crate) spare_ups: Vec<bool>,
+    pub(crate) spare_due: Vec<u64>,
+    /// The last step: all its output was sent or is lost, and its memory is used again.
+    pub(crate) made: MpStep,
 }
 
 impl MpWorld {
@@ -47,6 +53,9 @@ impl MpWorld {
             // It is not usable before all have booted.
             is_spent: true,
             spare: MpLines::new(alloc),
+            spare_ups: Vec::new(alloc),
+            spare_due: Vec::new(alloc),
+            made: MpStep::new(alloc),
         };
         let mut lines = MpLines::new(alloc);
         for k in 0..n {

@@ -9,10 +9,10 @@ use Rattle.crsm_mpworld.proofs.outgoing.let_out.Goals as goal
 pub returns : goal.returns
 returns c packets bytes x h makes =
     let kept = c.keep.ensures packets bytes h in
-    let long = ap length (c.as_slice.ensures ∙ makes.batch.sends) ∙ length-map x.sends to_send in
-    let sends = sends_taken c.args.count c.min.result (length c.as_slice.result.now) x.sends c.args.step.batch.sends _ makes.batch.sends (ap length c.as_slice.ensures) c.min.ensures c.truncate.ensures in
+    let long = c.len-made.ensures ∙ ap length makes.batch.sends ∙ length-map x.sends to_send in
+    let sends = sends_taken c.args.count c.min.result c.len-made.result x.sends c.args.step.now.batch.sends _ makes.batch.sends c.len-made.ensures c.min.ensures c.truncate.ensures in
     let sent = c.in_ok-send_all.ensures packets _ kept (take c.args.count x.sends) sends in
-    lets_out c.args.lines.now c.append.new.self c.send_all.new.lines c.append-2.new.self packets bytes c.args.k c.args.step.size x _ _ c.send_all.new.network makes.size
+    lets_out c.args.lines.now c.append.new.self c.send_all.new.lines c.append-2.new.self packets bytes c.args.k c.args.step.now.size x _ _ c.send_all.new.network makes.size
     (c.in_ok-append.ensures.ok ∙ ap (λ ls. c.args.lines.now ++ ls) makes.batch.lines) sent
     (c.in_ok-append-2.ensures.ok ∙ ap (λ ls. c.send_all.new.lines ++ ls) (c.truncate-2.ensures ∙ ap (take c.saturating_sub.result) makes.batch.replies
     ∙ ap (λ n. take n x.replies) (c.saturating_sub.ensures ∙ ap (λ n. c.args.count - n) long)))
@@ -21,4 +21,4 @@ pub send_all-requires : goal.send_all-requires
 send_all-requires c = subst (AllByRecursion FitsSend) (sym c.truncate.ensures) (fit_taken c.min.result _ c.requires.fits)
 
 pub keep-requires : goal.keep-requires
-keep-requires c = let small = c.args.step.small in let below = c.requires.room in omega (arith, small, below)
+keep-requires c = let small = c.args.step.now.small in let below = c.requires.room in omega (arith, small, below)

@@ -1,6 +1,5 @@
 use Rattle.std.proofs.Common.{◌≡◌, ℕ, List, length, map}
 use Rattle.std.specs.List.{AllByRecursion}
-use Rattle.std.specs.Vec.Iter.{into_iter_items, into_iter_len}
 use Rattle.crsm_mpreplica.specs.Made.{to_send}
 use Rattle.crsm_mpspec.specs.declared.message.MpMessage.{MpMessage}
 use Rattle.crsm_mpspec.specs.World as on_paper
@@ -11,8 +10,10 @@ use Rattle.crsm_mpworld.proofs.outgoing.send_all.Given as goal
 
 abbrev pub invariant-loop-send : goal.invariant-loop-send
 invariant-loop-send l = record {
-  fits : AllByRecursion FitsSend (into_iter_items l.send-iterator);
-  len : into_iter_len l.send-iterator ≡ length (into_iter_items l.send-iterator);
-  going : (packets : List on_paper.Packet) (bytes : ℕ) (out : List (ℕ × MpMessage)) → MpNetworkStands l.initial.network packets bytes → l.fn.sends ≡ map to_send out →
-      Going l.k out (into_iter_items l.send-iterator) packets bytes l.initial.lines l.network l.lines;
+  fits : AllByRecursion FitsSend l.sends;
+  going : (packets : List on_paper.Packet) (bytes : ℕ) (out : List (ℕ × MpMessage)) → MpNetworkStands l.initial.network packets bytes → l.initial.sends ≡ map to_send out →
+      Going l.k out l.sends packets bytes l.initial.lines l.network l.lines;
 }
+
+abbrev pub decreases-loop-send : goal.decreases-loop-send
+decreases-loop-send l = length l.sends

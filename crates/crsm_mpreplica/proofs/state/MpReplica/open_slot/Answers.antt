@@ -20,7 +20,7 @@ unfolding count_vote noting
 returns-in_ok-push_slot c x s =
     let log = x.replica.log in
     let stands = subst (λ note. NoteStands note x.replica.me log x.replica.note) c.in-Leading.is s.note in
-    let own = c.in_ok-push.ensures.items ∙ ap (λ ks. ks ++ c.args.self.now.me ∷ []) c.new-voters.ensures.items ∙ ap (λ k. k ∷ []) s.me in
+    let own = c.in_ok-push.ensures.items ∙ ap (λ ks. ks ++ c.args.self.now.me ∷ []) c.in_ok-voters.ensures.items ∙ ap (λ k. k ∷ []) s.me in
     record {
       me = s.me;
       n = s.n;

@@ -9,23 +9,24 @@ use Rattle.crsm_mpworld.proofs.place.Running.step.Goals as goal
 pub keep_records-requires-clause-fit : goal.keep_records-requires-clause-fit
 keep_records-requires-clause-fit c =
     let old = c.args.self.now in
-    subst (AllByRecursion FitsRec) (sym c.as_slice.ensures) (batch_fits old.core old.log c.args.input.now c.args.from c.in_ok-batch.batch (old.stands c.if-self.false) (c.in_ok-batch.ensures.made c.requires))
+    subst (AllByRecursion FitsRec) (sym c.as_slice.ensures) (batch_fits old.core old.log c.args.input.now c.args.from c.step.new.out (old.stands c.if-self.false) (λ r s. c.in_ok-step.ensures.made c.requires r s))
 
 pub returns-clause-fits : goal.returns-clause-fits
 returns-clause-fits c =
     let old = c.args.self.now in
-    batch_sends old.core old.log c.args.input.now c.args.from c.in_ok-batch.batch (old.stands c.if-self.false) (c.in_ok-batch.ensures.made c.requires)
+    batch_sends old.core old.log c.args.input.now c.args.from c.step.new.out (old.stands c.if-self.false) (λ r s. c.in_ok-step.ensures.made c.requires r s)
 
 pub returns-clause-steps : goal.returns-clause-steps
 returns-clause-steps c r up =
     let old = c.args.self.now in
-    let made = c.in_ok-batch.ensures.made c.requires r up.up.stands in
+    let stands = up.up.stands in
+    let made = c.in_ok-step.ensures.made c.requires r stands in
     let is = c.as_slice.ensures ∙ made.records in (
       record { batch = made; size = c.in_ok-size.ensures.size ∙ ap body_size is },
       record {
         unspent = refl;
         up = stepped old.core c.step.new.self old.log c.keep_records.new.log r c.args.input.now c.args.from c.as_slice.result.now up.up is
-            (c.in_ok-batch.ensures.stands c.requires r up.up.stands) c.in_ok-size.ensures.kept;
+            (c.in_ok-step.ensures.stands c.requires r stands) c.in_ok-size.ensures.kept;
       },
     )
 
@@ -34,9 +35,10 @@ pub invariant_of-self-2-clause-stands : goal.invariant_of-self-2-clause-stands
 invariant_of-self-2-clause-stands c unspent =
     let old = c.args.self.now in
     ∥∥₁_map (old.stands c.if-self.false) (λ s.
-    let made = c.in_ok-batch.ensures.made c.requires s.replica s.is.stands in
+    let stands = s.is.stands in
+    let made = c.in_ok-step.ensures.made c.requires s.replica stands in
     record {
       replica = _;
       is = stepped old.core c.step.new.self old.log c.keep_records.new.log s.replica c.args.input.now c.args.from c.as_slice.result.now s.is (c.as_slice.ensures ∙ made.records)
-          (c.in_ok-batch.ensures.stands c.requires s.replica s.is.stands) c.in_ok-size.ensures.kept;
+          (c.in_ok-step.ensures.stands c.requires s.replica stands) c.in_ok-size.ensures.kept;
     })

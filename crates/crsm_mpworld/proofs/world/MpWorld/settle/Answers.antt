@@ -13,4 +13,5 @@ returns c v h reading =
     let network = c.in_ok-due.ensures.stands v.packets v.bytes h.network in
     let ups = c.deref.ensures.value ∙ c.in_ok-ups.ensures v.n v.sites h.sites in
     let e = c.deref-2.ensures.value ∙ c.in_ok-due.ensures.due v.packets v.bytes h.network ∙ ap (λ us. filter (is_fresh_for (is_up_among us) v.packets) (numbers_of v.packets)) ups ∙ those_due v in
-    subst (λ (is : List ℕ). Leads (each_gone reading is v) c.deliver_each.new.self c.in_ok-lines.lines) e (c.in_ok-lines.ensures v (record { n = h.n; sites = h.sites; network = network }) reading)
+    let gone = subst (λ (is : List ℕ). Leads (each_gone reading is v) c.deliver_each.new.self c.in_ok-lines.lines) e (c.in_ok-lines.ensures v (record { n = h.n; sites = h.sites; network = network }) reading) in
+    record { after = record { n = gone.after.n; sites = gone.after.sites; network = gone.after.network }; told = gone.told }
