@@ -72,9 +72,6 @@ fn name_of(entry: &Entry) -> ExecutedEntry
     }
 }
 
-/// Drops a value in its own function, which keeps its cases out of its caller's proof.
-fn discard<T: Drop>(_value: T) {}
-
 /// Returns the identity of an encoded entry. `NoMemory` if memory runs out.
 fn place_of(alloc: Global, bytes: &[u8]) -> Result<ExecutedEntry, NoMemory>
     requires { IsAnEntry bytes.now }
@@ -84,7 +81,7 @@ fn place_of(alloc: Global, bytes: &[u8]) -> Result<ExecutedEntry, NoMemory>
         unreachable!();
     };
     let place = name_of(&entry);
-    discard(entry);
+    drop(entry);
     Ok(place)
 }
 

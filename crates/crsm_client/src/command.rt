@@ -18,7 +18,7 @@ use std::alloc::Global;
 const RESEND: u64 = 100;
 
 /// The parameters of the command.
-#[derive(Debug, Drop)]
+#[derive(Drop)]
 pub struct ClientOrder {
     /// The address of the replica, IPv4 x 65,536 + port.
     pub to: u64,

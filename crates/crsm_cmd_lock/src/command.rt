@@ -15,7 +15,7 @@ use crsm_port::Port;
 use std::alloc::Global;
 
 /// The parameters of the command.
-#[derive(Debug, Drop)]
+#[derive(Drop)]
 pub struct LockOrder {
     /// The address of the replica, IPv4 x 65,536 + port.
     pub to: u64,

@@ -27,9 +27,6 @@ fn line_of(alloc: Global, text: &[u8]) -> Result<SheetLine, Stop<SheetCause>>
     }
 }
 
-/// Drops a value in its own function, which keeps its cases out of its caller's proof.
-fn discard<T: Drop>(_value: T) {}
-
 /// The replay of a sheet.
 #[derive(Drop)]
 pub(crate) struct SheetReplay {
@@ -91,7 +88,7 @@ impl Handler for SheetReplay {
     fn line(&mut self, _at: u64, line: &[u8], text: &mut Bytes) -> Result<(), Stop<SheetCause>> {
         let line = line_of(self.alloc, line)?;
         let advanced = self.advance(&line, text);
-        discard(line);
+        drop(line);
         advanced
     }
 
@@ -100,7 +97,7 @@ impl Handler for SheetReplay {
             return Err(Stop::Refused(SheetCause::Unreadable));
         };
         let pushed = push_line(text, 0, &line);
-        discard(line);
+        drop(line);
         let Ok(()) = pushed else {
             return Err(Stop::NoMemory);
         };

@@ -11,13 +11,9 @@ ghost use Rattle.crsm_world.specs.World.{WorldStands};
 use crate::summary::Summary;
 use crsm_base::{Lines, NoMemory};
 use crsm_law_draws::drawn_runs_are_possible;
-use crsm_schedule::Event;
 use crsm_sim_generator::Generator;
 use crsm_world::{Bad, World};
 use std::alloc::Global;
-
-/// Drops an event in its own function, which keeps its cases out of its callers' proofs.
-fn discard(_event: Event) {}
 
 /// Returns the lines of an event that was not refused.
 fn unless_refused(stepped: Result<Lines, Bad>) -> Result<Lines, NoMemory>
@@ -68,7 +64,7 @@ impl SoakRun {
     {
         let event = self.generator.next(&self.world)?;
         let stepped = self.world.step(&event);
-        discard(event);
+        drop(event);
         let lines = unless_refused(stepped)?;
         self.summary.add(lines.as_slice());
         self.world.take_back(lines);

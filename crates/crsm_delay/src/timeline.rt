@@ -11,7 +11,6 @@ use crate::upcoming::Upcoming;
 use crsm_base::{Bytes, Lines, NoMemory};
 use crsm_law_pending::{agendas_end, agendas_go_on};
 use crsm_law_timing::events_can_happen;
-use crsm_schedule::Event;
 use crsm_spec_plan::Plan;
 use crsm_text::push_named;
 use crsm_world::{Bad, World};
@@ -19,9 +18,6 @@ use std::alloc::Global;
 
 /// Upper bound of the number of events in a timeline.
 const MORE_EVENTS: u64 = 1_000_000;
-
-/// Drops an event in its own function, which keeps its cases out of its callers' proofs.
-fn discard(_event: Event) {}
 
 /// Returns the lines of an event that was not refused.
 fn unless_refused(stepped: Result<Lines, Bad>) -> Result<Lines, NoMemory>
@@ -51,9 +47,9 @@ impl TimelineRun {
         requires { FitsPlan plan.now }
         ensures { IfOk result (λ run. Follows plan.now [] run) }
     {
+        let agenda = Agenda::new(alloc, plan)?;
         let (mut world, lines) = World::new(alloc, plan.n as u32)?;
         world.take_back(lines);
-        let agenda = Agenda::new(alloc, plan)?;
         Ok(TimelineRun {
             alloc,
             world,
@@ -75,7 +71,7 @@ impl TimelineRun {
         };
         let event = next.event(self.alloc)?;
         let stepped = self.world.step(&event);
-        discard(event);
+        drop(event);
         let lines = unless_refused(stepped)?;
         self.agenda.add_sent(plan, next.moment, lines.as_slice())?;
         self.world.take_back(lines);
@@ -83,14 +79,14 @@ impl TimelineRun {
     }
 }
 
-/// Appends the schedule of a plan's timeline: the number of replicas, and each event. `NoMemory` if memory runs out.
-pub(crate) fn push_timeline(alloc: Global, text: &mut Bytes, plan: &Plan) -> Result<(), NoMemory>
-    requires { FitsPlan plan.now }
+/// Appends the number of replicas, and each event of a run that begins. `NoMemory` if memory runs out.
+fn push_events(text: &mut Bytes, plan: &Plan, run: &mut TimelineRun) -> Result<(), NoMemory>
+    requires fits { FitsPlan plan.now }
+    requires begins { Follows plan.now [] run.old }
     ensures { OnOk result (AddsTimeline plan.now text.old text.new) }
 {
     events_can_happen();
     agendas_end();
-    let mut run = TimelineRun::new(alloc, plan)?;
     push_named(text, b"replicas", &[plan.n])?;
     text.push(b'\n')?;
     for _ in 0..MORE_EVENTS {
@@ -101,4 +97,15 @@ pub(crate) fn push_timeline(alloc: Global, text: &mut Bytes, plan: &Plan) -> Res
     }
     // A timeline has fewer events.
     Ok(())
+}
+
+/// Appends the schedule of a plan's timeline: the number of replicas, and each event. `NoMemory` if memory runs out.
+pub(crate) fn push_timeline(alloc: Global, text: &mut Bytes, plan: &Plan) -> Result<(), NoMemory>
+    requires { FitsPlan plan.now }
+    ensures { OnOk result (AddsTimeline plan.now text.old text.new) }
+{
+    let mut run = TimelineRun::new(alloc, plan)?;
+    let pushed = push_events(text, plan, &mut run);
+    drop(run);
+    pushed
 }

@@ -33,7 +33,7 @@ pub enum Ruling {
 }
 
 /// The next step after the key was read.
-#[derive(Debug, Drop)]
+#[derive(Drop)]
 pub enum NextStep {
     /// Send this operation under the client's next number.
     Ask(Op),
