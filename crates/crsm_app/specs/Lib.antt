@@ -6,3 +6,4 @@ pub mod Parts
 pub mod Did
 pub mod Exact
 pub mod Run
+pub mod Ports

@@ -100,6 +100,20 @@ pub(crate) fn socket_at<R: AllocGlobal + Net>(rt: &R, address: u64) -> Result<Ud
     UdpPort::bind(rt.alloc(), rt, address).map_err(NoDevice::Socket)
 }
 
+/// Executes the words over this port and a disk without content, and returns the status.
+fn status_over_port<R: AllocGlobal + Clock + Input + Print, P: Port>(
+    rt: &R,
+    words: &[String],
+    port: &mut P,
+) -> Status {
+    let Ok(mut disk) = MemDisk::new(rt.alloc(), &[], None, 0) else {
+        return Status::NoMemory;
+    };
+    let status = status_over(rt, words, port, &mut disk, &mut Silent);
+    drop(disk);
+    status
+}
+
 /// Executes the words over a port and a disk without content, and returns the status.
 pub(crate) fn status_over_nothing<R: AllocGlobal + Clock + Input + Print>(
     rt: &R,
@@ -108,10 +122,9 @@ pub(crate) fn status_over_nothing<R: AllocGlobal + Clock + Input + Print>(
     let Ok(mut port) = MemPort::new(rt.alloc(), &[]) else {
         return Status::NoMemory;
     };
-    let Ok(mut disk) = MemDisk::new(rt.alloc(), &[], None, 0) else {
-        return Status::NoMemory;
-    };
-    status_over(rt, words, &mut port, &mut disk, &mut Silent)
+    let status = status_over_port(rt, words, &mut port);
+    drop(port);
+    status
 }
 
 /// Executes the words over a socket at any free port, and returns the status.
@@ -120,8 +133,7 @@ pub(crate) fn status_over_socket<R: AllocGlobal + Clock + Input + Net + Print>(
     words: &[String],
 ) -> Result<Status, NoDevice> {
     let mut port = socket_at(rt, ANY_FREE_PORT)?;
-    let Ok(mut disk) = MemDisk::new(rt.alloc(), &[], None, 0) else {
-        return Ok(Status::NoMemory);
-    };
-    Ok(status_over(rt, words, &mut port, &mut disk, &mut Silent))
+    let status = status_over_port(rt, words, &mut port);
+    drop(port);
+    Ok(status)
 }

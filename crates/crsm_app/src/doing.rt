@@ -263,7 +263,9 @@ pub(crate) fn do_order<I: Source, O: Sink, P: Port, D: Disk, C: Clock, R: Report
         Task::ReplayNode { me, n } => run_sheet(alloc, me, n, input, output),
         Task::Client { to, turns, command } => {
             let order = ClientOrder { to, turns, command };
-            run_client(alloc, &order, cluster, output, port)
+            let status = run_client(alloc, &order, cluster, output, port);
+            drop(order);
+            status
         }
         Task::Operate { to, members } => run_operate(alloc, to, &members, cluster, port),
         Task::Soak { number, n, steps } => run_soak(alloc, number, n, steps, output),

@@ -94,7 +94,11 @@ pub fn start<R: AllocGlobal + Clock + Env + Eprint + Files<File = File> + Input 
     rt: &R,
 ) -> ExitCode {
     let status = match stand_ins(rt) {
-        Ok(_kept) => done(rt),
+        Ok(kept) => {
+            let status = done(rt);
+            drop(kept);
+            status
+        }
         Err(error) => told(rt, &[], Err(NoDevice::StandIn(error))),
     };
     ExitCode::from(status.number())

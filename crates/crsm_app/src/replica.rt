@@ -1,6 +1,9 @@
 //! A replica over a socket and a log file, and its messages on standard error: a line once it is booted, one for each
 //! thing that an operator wants to know, and one why it ends.
 
+ghost use Rattle.std.specs.Prelude.{◌≡◌, IfOk};
+ghost use Rattle.crsm_app.specs.Ports.{IsNodePort, without};
+
 use crate::devices::{NoDevice, socket_at, status_over};
 use crate::status::Status;
 use crate::streams::stream_into;
@@ -159,14 +162,20 @@ type NodePort<'a, R> = FlowPort<
 /// Returns the node of the words, and the number of its cluster.
 fn node_in(alloc: Global, words: &[String]) -> Result<(u64, NodeTask), Status> {
     match read_words(alloc, words) {
-        Ok(
-            Order {
-                cluster,
-                task: Task::Node(node),
-            },
-        ) => Ok((cluster, node)),
-        Ok(_) => Err(Status::Usage),
+        Ok(order) => node_of(order),
         Err(_) => Err(Status::NoMemory),
+    }
+}
+
+/// Returns the node of an order, and the number of its cluster.
+fn node_of(order: Order) -> Result<(u64, NodeTask), Status> {
+    let Order { cluster, task } = order;
+    match task {
+        Task::Node(node) => Ok((cluster, node)),
+        other => {
+            drop(other);
+            Err(Status::Usage)
+        }
     }
 }
 
@@ -187,6 +196,19 @@ fn open_log<R: Files<File = File>>(rt: &R, name: &str) -> Result<FileDisk, NoDev
     FileDisk::open(rt, name).map_err(NoDevice::Log)
 }
 
+/// Returns the addresses of the others than the one at this address. `NoMemory` if memory runs out.
+fn others_of(alloc: Global, peers: &[u64], own: u64) -> Result<Vec<u64>, NoMemory>
+    ensures { IfOk result (λ others. others.items ≡ without own peers.now) }
+{
+    let mut others = Vec::new(alloc);
+    for address in peers {
+        if *address != own {
+            others.push(*address)?;
+        }
+    }
+    Ok(others)
+}
+
 /// Returns the ports of a replica over its socket: packets, the check of senders, and flow control. `NoMemory` if
 /// memory runs out.
 fn port_over<'a, R: AllocGlobal + Clock>(
@@ -194,13 +216,10 @@ fn port_over<'a, R: AllocGlobal + Clock>(
     socket: UdpPort,
     place: NodeIdentity,
     peers: &[u64],
-) -> Result<NodePort<'a, R>, NoMemory> {
-    let mut others = Vec::new(rt.alloc());
-    for address in peers {
-        if *address != place.address {
-            others.push(*address)?;
-        }
-    }
+) -> Result<NodePort<'a, R>, NoMemory>
+    ensures { IfOk result (IsNodePort socket place.me place.address peers.now) }
+{
+    let others = others_of(rt.alloc(), peers, place.address)?;
     let packets = PacketsPort::new(rt.alloc(), socket, SystemClock::new(rt), others.as_slice())?;
     let checked = PeerPort::new(packets, Vec::from_slice(rt.alloc(), peers)?);
     FlowPort::new(
@@ -233,7 +252,11 @@ fn run_at<R: AllocGlobal + Clock + Eprint + Files<File = File> + Input + Net + P
         place,
         journal: None,
     };
-    Ok(status_over(rt, words, &mut port, &mut disk, &mut reporter))
+    let status = status_over(rt, words, &mut port, &mut disk, &mut reporter);
+    drop(port);
+    drop(disk);
+    drop(reporter);
+    Ok(status)
 }
 
 /// Runs the replica of the words, writes to standard error why it ends, and returns its status. If standard error goes
