@@ -12,16 +12,24 @@ pub(crate) enum Took {
     More,
 }
 
+/// The datagram that a line of a replayed sheet sends to a node, in hexadecimal.
+fn sent_in<'a>(line: &'a str, receiver: &str) -> Option<&'a str> {
+    let (_, said) = line.split_once(' ')?;
+    let (to, bytes) = said.strip_prefix("out ")?.split_once(' ')?;
+    if to != receiver {
+        return None;
+    }
+    let (bytes, _) = bytes.split_once(' ').unwrap_or((bytes, ""));
+    Some(bytes)
+}
+
 /// The datagrams that a replayed sheet sends to a node, in order of their bytes.
 fn sent_to(alloc: Global, text: &str, to: usize) -> Result<Vec<&str>, Fault> {
     let receiver = format!(in alloc; "{to}")?;
     let mut sent = Vec::new(alloc);
     for line in text.lines() {
-        let mut words = line.split(' ').skip(1);
-        if words.next() == Some("out") && words.next() == Some(receiver.as_str()) {
-            if let Some(bytes) = words.next() {
-                sent.push(bytes)?;
-            }
+        if let Some(bytes) = sent_in(line, receiver.as_str()) {
+            sent.push(bytes)?;
         }
     }
     sent.sort_unstable();

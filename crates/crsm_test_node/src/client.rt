@@ -135,8 +135,9 @@ fn push_asked(
     requires resend { 0 < resend }
 {
     let answer = ask(alloc, port, order.to, &order.command, order.turns, resend);
-    let end = answer_text(alloc, &answer)?;
-    Ok(push_end(end.as_str(), port, out)?)
+    let end = answer_text(alloc, &answer);
+    drop(answer);
+    Ok(push_end(end?.as_str(), port, out)?)
 }
 
 /// The call below it.

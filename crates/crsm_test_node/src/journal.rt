@@ -68,7 +68,9 @@ fn run(alloc: Global, me: u32, script: &mut Script, out: &mut Bytes) -> Result<(
         journal: None,
     };
     let _end = script.run(alloc, &mut kept);
-    push_kept(alloc, &kept, out)
+    let pushed = push_kept(alloc, &kept, out);
+    drop(kept);
+    pushed
 }
 
 /// Appends what the node of a line says.

@@ -1,13 +1,13 @@
 //! Lines of the table `client` about a lock.
 
-ghost use Rattle.std.specs.Prelude.{◌<◌, ◌-◌, ◌^◌, IfOk};
+ghost use Rattle.std.specs.Prelude.{◌≡◌, ◌<◌, ◌-◌, ◌^◌, IfOk};
 ghost use Rattle.crsm_base.specs.Spelling.{FitsKey};
 
 use crate::client::{command_of, output_of, push_ended};
 use crate::fault::Fault;
 use crate::packets::port_of;
 use crate::words::{number_of, parted};
-use crsm_base::{Bytes, Command, Op};
+use crsm_base::{Bytes, Command, Key, Op};
 use crsm_cmd_lock::{LockOrder, lock};
 use crsm_io::MemSink;
 use crsm_lease::Action;
@@ -23,6 +23,16 @@ fn action_of(word: &str) -> Result<Action, Fault> {
     }
 }
 
+/// Returns the key of a look.
+fn key_of(op: Op) -> Result<Key, Fault>
+    ensures { IfOk result (λ key. op ≡ Op.Get key) }
+{
+    match op {
+        Op::Get(key) => Ok(key),
+        _ => Err(Fault::Unreadable),
+    }
+}
+
 /// Reads what a client wants of a lock: an action, and then the look at its key.
 fn order_of(alloc: Global, to: u64, turns: u64, words: &str) -> Result<Box<LockOrder>, Fault>
     ensures key { IfOk result (λ order. FitsKey order.value.key) }
@@ -30,14 +40,8 @@ fn order_of(alloc: Global, to: u64, turns: u64, words: &str) -> Result<Box<LockO
 {
     let (action, look) = parted(words)?;
     let action = action_of(action)?;
-    let Command {
-        client,
-        number,
-        op: Op::Get(key),
-    } = command_of(alloc, look)?
-    else {
-        return Err(Fault::Unreadable);
-    };
+    let Command { client, number, op } = command_of(alloc, look)?;
+    let key = key_of(op)?;
     if number == u64::MAX {
         return Err(Fault::Unreadable);
     }

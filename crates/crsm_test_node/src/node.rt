@@ -61,7 +61,9 @@ fn push_left(script: &Script, out: &mut Bytes) -> Result<(), NoMemory> {
 /// The bytes that a crash then leaves of its disk.
 fn image_of(alloc: Global, script: &Script) -> Result<Vec<u8>, Fault> {
     let image = script.disk.image()?;
-    Ok(Vec::from_slice(alloc, image.bytes())?)
+    let bytes = Vec::from_slice(alloc, image.bytes());
+    drop(image);
+    Ok(bytes?)
 }
 
 /// Runs the node of a line, appends what came of it, and gives what a crash then leaves of its disk.

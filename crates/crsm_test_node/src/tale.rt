@@ -41,7 +41,11 @@ fn push_life(
 ) -> Result<(), Fault> {
     match boot(alloc, empty_disk(alloc, disk_fails)?) {
         Ok(booted) => push_run(alloc, booted.shell, devices, words, out),
-        Err((why, disk)) => push_failure(alloc, why, &disk, out),
+        Err((why, disk)) => {
+            let pushed = push_failure(alloc, why, &disk, out);
+            drop(disk);
+            pushed
+        }
     }
 }
 
@@ -66,10 +70,12 @@ fn push_run(
 ) -> Result<(), Fault> {
     let pushed = push_words(&mut shell, devices, words, out);
     let disk = shell.into_disk();
-    match pushed {
+    let left = match pushed {
         Ok(()) => push_left(alloc, &disk, devices, out),
         Err(why) => Err(why),
-    }
+    };
+    drop(disk);
+    left
 }
 
 fn push_left(

@@ -2,13 +2,13 @@
 //! with flow control gave, and behind `>` what went out.
 //!
 //! A row has the steps of a port: `put:FROM:HEX` is a datagram that waits, `fail:K` a call of the port below that
-//! fails, and then, in order, `reserve:T` makes room at the clock's reading T, `send:TO:HEX` sends, `recv` receives and
-//! `flush` ends a group. The port is that of replica 0 of three, at the addresses 7000 to 7002. A receive of an idle
-//! port with flow control reads the clock, too: it takes the next `reserve`'s reading.
+//! fails, `clock:T,T` has the readings of the port's clock, and then, in order, `reserve` makes room, `send:TO:HEX`
+//! sends, `recv` receives and `flush` ends a group. The port is that of replica 0 of three, at the addresses 7000 to
+//! 7002. The clock is read at each `reserve`, and where an idle port with flow control receives.
 
 use crate::fault::Fault;
 use crate::packets::{failing_port, packet_of, push_packet, push_sent, put_packet};
-use crate::words::number_of;
+use crate::words::{number_of, numbers_of};
 use crsm_base::{Bytes, NoMemory};
 use crsm_clock::ListClock;
 use crsm_port::{MemPort, Port, Recv};
@@ -53,29 +53,36 @@ struct Below {
     clock: ListClock,
 }
 
-/// The numbers of the steps of this name.
-fn step_numbers(alloc: Global, row: &str, name: &str) -> Result<Vec<u64>, Fault> {
-    let mut numbers = Vec::new(alloc);
+/// The calls that fail in a row.
+fn fails_of(alloc: Global, row: &str) -> Result<Vec<u64>, Fault> {
+    let mut fails = Vec::new(alloc);
     for step in row.split(' ') {
-        match step.split_once(":") {
-            Some((word, number)) if word == name => {
-                numbers.push(number_of(number)?)?;
-            }
-            _ => {}
+        if let Some(number) = step.strip_prefix("fail:") {
+            fails.push(number_of(number)?)?;
         }
     }
-    Ok(numbers)
+    Ok(fails)
+}
+
+/// The readings in a row, or `-` for none.
+fn readings_in(row: &str) -> &str {
+    for step in row.split(' ') {
+        if let Some(readings) = step.strip_prefix("clock:") {
+            return readings;
+        }
+    }
+    "-"
 }
 
 /// The clock of a row.
 fn clock_of(alloc: Global, row: &str) -> Result<ListClock, Fault> {
-    let readings = step_numbers(alloc, row, "reserve")?;
+    let readings = numbers_of(alloc, readings_in(row))?;
     Ok(ListClock::new(alloc, &readings)?)
 }
 
 /// The port below of a row, with the datagrams that wait.
 fn port_of(alloc: Global, row: &str) -> Result<Box<MemPort>, Fault> {
-    let fails = step_numbers(alloc, row, "fail")?;
+    let fails = fails_of(alloc, row)?;
     let mut port = failing_port(alloc, &fails)?;
     wait_all(alloc, &mut port, row)?;
     Ok(port)
@@ -125,7 +132,7 @@ fn take_step<P: Port>(
         ("flush", _) => port.flush(),
         ("reserve", _) => port.reserve(0, 0)?,
         ("send", word) => send(alloc, port, word, text)?,
-        ("put" | "fail", _) => {}
+        ("put" | "fail" | "clock", _) => {}
         _ => return Err(Fault::Unreadable),
     }
     Ok(())
@@ -160,11 +167,15 @@ fn run(
         }
         Kind::Packets => {
             let mut over = PacketsPort::new(alloc, port, clock, &PEERS[1..])?;
-            take_steps(alloc, kind, &mut over, row, text)
+            let taken = take_steps(alloc, kind, &mut over, row, text);
+            drop(over);
+            taken
         }
         Kind::Flow => {
             let mut over = FlowPort::new(alloc, port, clock, 0, &PEERS)?;
-            take_steps(alloc, kind, &mut over, row, text)
+            let taken = take_steps(alloc, kind, &mut over, row, text);
+            drop(over);
+            taken
         }
     }
 }

@@ -1,7 +1,8 @@
-//! One case: a header that says how it is run, the datagrams that wait at its port, and an input.
+//! One case: a header that says how it is run, the datagrams that wait at its port, and an input. Each device is made by
+//! a function of its own, and stands in a box.
 
 use crate::fault::Fault;
-use crate::fields::{number_of, parted, sink_of, source_of};
+use crate::fields::{boxed_source, number_of, parted, sink_of, source_of};
 use crsm_app::{Silent, Status, run};
 use crsm_clock::ListClock;
 use crsm_disk::{Disk, MemDisk};
@@ -10,29 +11,22 @@ use crsm_port::MemPort;
 use crsm_text::hex_of;
 use std::alloc::Global;
 
-/// What a case runs over.
+/// A case: the words of its command line, and the devices that it runs over.
 #[derive(Drop)]
-struct Devices {
-    input: MemSource,
-    output: MemSink,
-    port: MemPort,
-    disk: MemDisk,
-    clock: ListClock,
-}
-
-/// A run: what it answered and wrote, the port that it sent over, and the disk that it left.
-#[derive(Drop)]
-pub struct Ran {
-    pub status: Status,
-    pub output: MemSink,
-    pub port: MemPort,
-    pub disk: MemDisk,
+pub struct Case {
+    words: Vec<String>,
+    input: Box<MemSource>,
+    pub output: Box<MemSink>,
+    pub port: Box<MemPort>,
+    pub disk: Box<MemDisk>,
+    clock: Box<ListClock>,
 }
 
 /// Returns the word of a header behind this one.
 fn word_behind<'a>(header: &'a str, word: &str) -> Option<&'a str> {
     let (_, rest) = header.split_once(word)?;
-    rest.split(' ').next()
+    let (first, _) = rest.split_once(' ').unwrap_or((rest, ""));
+    Some(first)
 }
 
 /// Returns the numbers, with commas between them, of the word behind this one.
@@ -71,88 +65,99 @@ fn put_datagram(alloc: Global, port: &mut MemPort, line: &str) -> Result<(), Fau
 }
 
 /// Returns the port, at which these datagrams wait, one a line: of `port K` the K-th call fails.
-fn port_of(alloc: Global, header: &str, datagrams: &str) -> Result<MemPort, Fault> {
-    let fails = numbers_behind(alloc, header, " port ")?;
-    let mut port = MemPort::new(alloc, &fails)?;
+fn port_of(alloc: Global, header: &str, datagrams: &str) -> Result<Box<MemPort>, Fault> {
+    let mut port = failing_port(alloc, header)?;
     for line in datagrams.lines() {
         put_datagram(alloc, &mut port, line)?;
     }
     Ok(port)
 }
 
+fn failing_port(alloc: Global, header: &str) -> Result<Box<MemPort>, Fault> {
+    let fails = numbers_behind(alloc, header, " port ")?;
+    let port = MemPort::new(alloc, &fails)?;
+    Ok(Box::new(alloc, port)?)
+}
+
 /// Returns the disk: of `disk K` the K-th call fails, and `file HEX` is its file, which two calls write.
-fn disk_of(alloc: Global, header: &str) -> Result<MemDisk, Fault> {
-    let fails = numbers_behind(alloc, header, " disk ")?;
-    let mut disk = MemDisk::new(alloc, &fails, None, 0)?;
+fn disk_of(alloc: Global, header: &str) -> Result<Box<MemDisk>, Fault> {
+    let mut disk = failing_disk(alloc, header)?;
     if let Some(hex) = word_behind(header, " file ") {
-        let bytes = hex_of(alloc, hex.as_bytes())?;
-        disk.reserve(2, bytes.len() as u64)?;
-        let _written = disk.write_at(0, bytes.as_slice());
-        let _synced = disk.sync();
+        write_file(alloc, &mut disk, hex)?;
     }
     Ok(disk)
 }
 
-/// Returns the input of a case: of `hex` its bytes are in hexadecimal, on one line.
-fn input_of(alloc: Global, header: &str, text: &str, fails: &[u64]) -> Result<MemSource, Fault> {
+fn failing_disk(alloc: Global, header: &str) -> Result<Box<MemDisk>, Fault> {
+    let fails = numbers_behind(alloc, header, " disk ")?;
+    let disk = MemDisk::new(alloc, &fails, None, 0)?;
+    Ok(Box::new(alloc, disk)?)
+}
+
+/// Writes the file of these bytes, and syncs it; a call that fails is none of the case's.
+fn write_file(alloc: Global, disk: &mut MemDisk, hex: &str) -> Result<(), Fault> {
+    let bytes = hex_of(alloc, hex.as_bytes())?;
+    disk.reserve(2, bytes.len() as u64)?;
+    let _written = disk.write_at(0, bytes.as_slice());
+    let _synced = disk.sync();
+    Ok(())
+}
+
+/// Returns the input of a case, of which `read K` fails at the K-th read: of `hex` its bytes are in hexadecimal, on one
+/// line.
+fn input_of(alloc: Global, header: &str, text: &str) -> Result<Box<MemSource>, Fault> {
+    let fails = numbers_behind(alloc, header, " read ")?;
     if !header.ends_with(" hex") {
-        return Ok(source_of(alloc, header, text, fails)?);
+        return source_of(alloc, header, text, &fails);
     }
     let bytes = hex_of(alloc, text.trim_end().as_bytes())?;
-    Ok(MemSource::new(alloc, bytes.as_slice(), fails)?)
+    boxed_source(alloc, bytes.as_slice(), &fails)
 }
 
-/// Returns the devices of a case: of `read K` the K-th read fails, of `write K` the K-th write, and `clock` has the
-/// readings.
-fn devices_of(alloc: Global, header: &str, datagrams: &str, text: &str) -> Result<Devices, Fault> {
-    let reads = numbers_behind(alloc, header, " read ")?;
-    let writes = numbers_behind(alloc, header, " write ")?;
+/// Returns the output: of `write K` the K-th write fails.
+fn output_of(alloc: Global, header: &str) -> Result<Box<MemSink>, Fault> {
+    let fails = numbers_behind(alloc, header, " write ")?;
+    sink_of(alloc, &fails)
+}
+
+/// Returns the clock, with the readings of `clock`.
+fn clock_of(alloc: Global, header: &str) -> Result<Box<ListClock>, Fault> {
     let readings = numbers_behind(alloc, header, " clock ")?;
-    Ok(Devices {
-        input: input_of(alloc, header, text, &reads)?,
-        output: sink_of(alloc, &writes)?,
-        port: port_of(alloc, header, datagrams)?,
-        disk: disk_of(alloc, header)?,
-        clock: ListClock::new(alloc, &readings)?,
-    })
+    let clock = ListClock::new(alloc, &readings)?;
+    Ok(Box::new(alloc, clock)?)
 }
 
-/// Does what the words say over memory.
-fn run_over(alloc: Global, words: &[String], devices: Devices) -> Ran {
-    let Devices {
-        mut input,
-        mut output,
-        mut port,
-        mut disk,
-        mut clock,
-    } = devices;
-    let status = run(
-        alloc,
-        words,
-        &mut input,
-        &mut output,
-        &mut port,
-        &mut disk,
-        &mut clock,
-        &mut Silent,
-    );
-    Ran {
-        status,
-        output,
-        port,
-        disk,
+impl Case {
+    /// Reads a case from its header and its text. Datagrams come first, then a line `--` and the input. A number or
+    /// datagram that cannot be read is `Unreadable`.
+    pub fn read(alloc: Global, header: &str, text: &str) -> Result<Box<Case>, Fault> {
+        let (header, words) = match header.split_once(" words") {
+            Some((header, words)) => (header, Some(words)),
+            None => (header, None),
+        };
+        let (datagrams, text) = text.split_once("--\n").unwrap_or(("", text));
+        let case = Case {
+            words: words_of(alloc, words)?,
+            input: input_of(alloc, header, text)?,
+            output: output_of(alloc, header)?,
+            port: port_of(alloc, header, datagrams)?,
+            disk: disk_of(alloc, header)?,
+            clock: clock_of(alloc, header)?,
+        };
+        Ok(Box::new(alloc, case)?)
     }
-}
 
-/// Runs an input over memory as the header says. Datagrams come first, then a line `--` and the input. A number or
-/// datagram that cannot be read is `Unreadable`.
-pub fn run_case(alloc: Global, header: &str, text: &str) -> Result<Ran, Fault> {
-    let (header, words) = match header.split_once(" words") {
-        Some((header, words)) => (header, Some(words)),
-        None => (header, None),
-    };
-    let (datagrams, text) = text.split_once("--\n").unwrap_or(("", text));
-    let devices = devices_of(alloc, header, datagrams, text)?;
-    let words = words_of(alloc, words)?;
-    Ok(run_over(alloc, &words, devices))
+    /// Does what the words say over memory.
+    pub fn run(&mut self, alloc: Global) -> Status {
+        run(
+            alloc,
+            &self.words,
+            &mut *self.input,
+            &mut *self.output,
+            &mut *self.port,
+            &mut *self.disk,
+            &mut *self.clock,
+            &mut Silent,
+        )
+    }
 }

@@ -12,7 +12,7 @@ use std::str::from_utf8;
 fn times_of(alloc: Global, header: &str, plan: &str) -> Result<String, Fault> {
     let mut source = source_of(alloc, header, plan, &[])?;
     let mut sink = sink_of(alloc, &[])?;
-    let ending = delay_times(alloc, &mut source, &mut sink);
+    let ending = delay_times(alloc, &mut *source, &mut *sink);
     let written = from_utf8(sink.as_slice()).unwrap_or("no text\n");
     Ok(format!(in alloc; "{written}{ending:?}")?)
 }

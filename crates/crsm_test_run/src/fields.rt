@@ -1,7 +1,6 @@
 //! Parts of a case, and the inputs and outputs in memory that it runs over.
 
 use crate::fault::Fault;
-use crsm_base::NoMemory;
 use crsm_io::{MemSink, MemSource};
 use crsm_text::read_number;
 use std::alloc::Global;
@@ -39,13 +38,20 @@ pub fn source_of(
     header: &str,
     text: &str,
     fails: &[u64],
-) -> Result<MemSource, NoMemory> {
-    MemSource::new(alloc, kept(header, text).as_bytes(), fails)
+) -> Result<Box<MemSource>, Fault> {
+    boxed_source(alloc, kept(header, text).as_bytes(), fails)
+}
+
+/// Returns a source of these bytes, of which these reads fail.
+pub fn boxed_source(alloc: Global, bytes: &[u8], fails: &[u64]) -> Result<Box<MemSource>, Fault> {
+    let source = MemSource::new(alloc, bytes, fails)?;
+    Ok(Box::new(alloc, source)?)
 }
 
 /// Returns an output, of which these writes fail.
-pub fn sink_of(alloc: Global, fails: &[u64]) -> Result<MemSink, NoMemory> {
-    let mut sink = MemSink::new(alloc, fails)?;
+pub fn sink_of(alloc: Global, fails: &[u64]) -> Result<Box<MemSink>, Fault> {
+    let sink = MemSink::new(alloc, fails)?;
+    let mut sink = Box::new(alloc, sink)?;
     sink.reserve(ROOM)?;
     Ok(sink)
 }

@@ -6,17 +6,18 @@ ghost use Rattle.std.specs.Prelude.{◌≤◌, IfSome};
 use crate::fault::Fault;
 use crsm_cmd_soak::soak;
 use crsm_io::StdSink;
+use crsm_text::read_number;
 use std::io::{self, Print};
-use std::str::FromStr;
 
 /// Returns the three numbers of a line: what events are drawn from, how many replicas, and how many steps.
 fn numbers(line: &str) -> Option<(u64, u32, u64)>
     ensures { IfSome result (λ n. (1 ≤ n.1) × (n.1 ≤ 15)) }
 {
-    let mut words = line.split(' ');
-    let number = u64::from_str(words.next()?).ok()?;
-    let replicas = u32::from_str(words.next()?).ok()?;
-    let steps = u64::from_str(words.next()?).ok()?;
+    let (number, rest) = line.split_once(' ')?;
+    let (replicas, steps) = rest.split_once(' ')?;
+    let number = read_number(number.as_bytes())?;
+    let replicas = u32::try_from(read_number(replicas.as_bytes())?).ok()?;
+    let steps = read_number(steps.as_bytes())?;
     if replicas == 0 || replicas > 15 {
         return None;
     }

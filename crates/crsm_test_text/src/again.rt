@@ -25,14 +25,22 @@ pub enum Found {
     Nothing,
 }
 
-/// What the reader takes from the prefix of the bytes, and what the writer makes of it.
+/// What was found, of a value that these bytes spell, by how writing it went.
+fn value_of(length: usize, written: Bytes, wrote: Result<(), NoMemory>) -> Result<Found, NoMemory> {
+    wrote?;
+    Ok(Found::Value { length, written })
+}
+
+/// What the reader takes from the prefix of the bytes, and what the writer makes of it. The value is dropped by a
+/// function, which keeps its variants out of the proof.
 macro_rules! again {
     ($alloc:ident, $bytes:ident, $read:ident, $write:ident) => {
         match $read($alloc, $bytes)? {
             Some((value, length)) => {
                 let mut written = Bytes::new($alloc);
-                $write($alloc, &value, &mut written)?;
-                Ok(Found::Value { length, written })
+                let wrote = $write($alloc, &value, &mut written);
+                drop(value);
+                value_of(length, written, wrote)
             }
             None => Ok(Found::Nothing),
         }
@@ -45,8 +53,9 @@ macro_rules! whole_again {
         match $read($alloc, $bytes) {
             Ok(message) => {
                 let mut written = Bytes::new($alloc);
-                $write($alloc, &message, &mut written)?;
-                Ok(Found::Value { length: $bytes.len(), written })
+                let wrote = $write($alloc, &message, &mut written);
+                drop(message);
+                value_of($bytes.len(), written, wrote)
             }
             Err(WireError::NotOne) => Ok(Found::Nothing),
             Err(WireError::NoMemory) => Err(NoMemory),
@@ -147,9 +156,11 @@ fn record_again(alloc: Global, bytes: &[u8]) -> Result<Found, NoMemory> {
 /// The records of a whole log body, which are counted and not written.
 fn body_again(alloc: Global, bytes: &[u8]) -> Result<Found, NoMemory> {
     match read_recs(alloc, bytes)? {
-        Some(recs) => Ok(Found::Records {
-            count: recs.as_slice().len(),
-        }),
+        Some(recs) => {
+            let count = recs.as_slice().len();
+            drop(recs);
+            Ok(Found::Records { count })
+        }
         None => Ok(Found::Nothing),
     }
 }

@@ -33,12 +33,17 @@ fn shown(alloc: Global, name: &str, found: &Found) -> Result<String, Fault> {
     }
 }
 
+/// Reads the bytes of a field as a value of this kind.
+fn found_in(alloc: Global, kind: Kind, field: &str) -> Result<Found, Fault> {
+    let bytes = bytes_of(alloc, field)?;
+    Ok(read_again(alloc, kind, bytes.as_slice())?)
+}
+
 /// Appends the kind's name and what was read.
 pub fn tell(alloc: Global, row: &str, out: &mut Bytes) -> Result<(), Fault> {
     let (name, field) = row.split_once(' ').ok_or(Fault::NoBytes)?;
     let kind = Kind::named(name).ok_or(Fault::UnknownKind)?;
-    let bytes = bytes_of(alloc, field)?;
-    let found = read_again(alloc, kind, bytes.as_slice())?;
+    let found = found_in(alloc, kind, field)?;
     let text = shown(alloc, name, &found)?;
     append_line(out, text.as_str())
 }

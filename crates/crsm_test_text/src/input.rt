@@ -65,12 +65,23 @@ fn numbers_of(alloc: Global, field: &str) -> Result<Vec<u64>, AllocError> {
     }
 }
 
+fn source_of(alloc: Global, reads: &[u64], input: &str) -> Result<Box<MemSource>, Fault> {
+    let source = MemSource::new(alloc, input.as_bytes(), reads)?;
+    Ok(Box::new(alloc, source)?)
+}
+
+fn sink_of(alloc: Global, writes: &[u64]) -> Result<Box<MemSink>, Fault> {
+    let sink = MemSink::new(alloc, writes)?;
+    let mut sink = Box::new(alloc, sink)?;
+    sink.reserve(ROOM)?;
+    Ok(sink)
+}
+
 /// Returns how the run over an input ends, and what it wrote.
 fn run(alloc: Global, reads: &[u64], writes: &[u64], input: &str) -> Result<String, Fault> {
-    let mut source = MemSource::new(alloc, input.as_bytes(), reads)?;
-    let mut sink = MemSink::new(alloc, writes)?;
-    sink.reserve(ROOM)?;
-    let ending = run_lines(alloc, Sum { so_far: None }, &mut source, &mut sink);
+    let mut source = source_of(alloc, reads, input)?;
+    let mut sink = sink_of(alloc, writes)?;
+    let ending = run_lines(alloc, Sum { so_far: None }, &mut *source, &mut *sink);
     let written = text_of(sink.as_slice());
     Ok(format!(in alloc; "{ending:?}: {written:?}")?)
 }

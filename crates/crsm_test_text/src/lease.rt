@@ -1,6 +1,8 @@
 //! The table `lease`: a row is an action, a client, a key, the outcome of its Get and the outcome of the Cas that
 //! follows, with a tab between each two. It answers the Cas that is asked for, if any, and the line that is shown.
 
+ghost use Rattle.crsm_lease.specs.Rules.{IsAsked};
+
 use crate::fault::Fault;
 use crate::fields::{number_of, parted};
 use crsm_base::{Answer, Bytes, Key, NoMemory, Op, Outcome, Refusal, Val};
@@ -14,8 +16,8 @@ struct Row {
     action: Action,
     client: u64,
     key: Key,
-    found: Outcome,
-    changed: Outcome,
+    found: Box<Outcome>,
+    changed: Box<Outcome>,
 }
 
 fn action_of(field: &str) -> Result<Action, Fault> {
@@ -68,7 +70,7 @@ fn bare_outcome(field: &str) -> Result<Outcome, Fault> {
     }
 }
 
-fn outcome_of(alloc: Global, field: &str) -> Result<Outcome, Fault> {
+fn valued_outcome(alloc: Global, field: &str) -> Result<Outcome, Fault> {
     let Some((name, value)) = field.split_once(' ') else {
         return bare_outcome(field);
     };
@@ -79,6 +81,11 @@ fn outcome_of(alloc: Global, field: &str) -> Result<Outcome, Fault> {
         "no" => Ok(Outcome::Refused(refusal_of(value)?)),
         _ => Err(Fault::Unreadable),
     }
+}
+
+fn outcome_of(alloc: Global, field: &str) -> Result<Box<Outcome>, Fault> {
+    let outcome = valued_outcome(alloc, field)?;
+    Ok(Box::new(alloc, outcome)?)
 }
 
 fn row_of(alloc: Global, text: &str) -> Result<Row, Fault> {
@@ -116,13 +123,22 @@ fn push_asked(out: &mut Bytes, op: &Op) -> Result<(), NoMemory> {
     out.append(b": ")
 }
 
+/// Adds the Cas that is asked for, and what its outcome leads to.
+fn push_cas(alloc: Global, op: &Op, changed: &Outcome, out: &mut Bytes) -> Result<(), NoMemory>
+    requires { IsAsked op.now }
+{
+    push_asked(out, op)?;
+    print_told(alloc, after_cas(op, changed), out)
+}
+
 /// Appends what a row leads to.
 fn push_told(alloc: Global, row: &Row, out: &mut Bytes) -> Result<(), NoMemory> {
     match after_get(alloc, row.action, row.client, &row.key, &row.found)? {
         NextStep::End(told) => print_told(alloc, told, out),
         NextStep::Ask(op) => {
-            push_asked(out, &op)?;
-            print_told(alloc, after_cas(&op, &row.changed), out)
+            let told = push_cas(alloc, &op, &row.changed, out);
+            drop(op);
+            told
         }
     }
 }
@@ -130,5 +146,7 @@ fn push_told(alloc: Global, row: &Row, out: &mut Bytes) -> Result<(), NoMemory> 
 /// Appends the Cas that is asked for, if any, and the line that is shown.
 pub fn tell(alloc: Global, row: &str, out: &mut Bytes) -> Result<(), Fault> {
     let row = row_of(alloc, row)?;
-    Ok(push_told(alloc, &row, out)?)
+    let told = push_told(alloc, &row, out);
+    drop(row);
+    Ok(told?)
 }

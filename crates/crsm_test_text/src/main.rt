@@ -39,18 +39,31 @@ fn table_of(name: &str) -> io::Result<Table> {
     }
 }
 
+/// Writes a heading through and gives its table, or else writes what a row of this table is read as.
+fn table_behind<R: AllocGlobal + Print>(
+    rt: &R,
+    table: Option<Table>,
+    line: &str,
+) -> io::Result<Table> {
+    match (line.strip_prefix("table "), table) {
+        (Some(name), _) => {
+            let table = table_of(name)?;
+            println!(rt; "{line}")?;
+            Ok(table)
+        }
+        (None, Some(table)) => {
+            show(rt, table, line)?;
+            Ok(table)
+        }
+        (None, None) => Err(io::Error::from(ErrorKind::InvalidInput)),
+    }
+}
+
 fn main(rt: HostRuntime) -> io::Result<()> {
     let mut table = None;
     for line in rt.lines(rt.alloc()) {
         let line = line?;
-        match (line.as_str().strip_prefix("table "), table) {
-            (Some(name), _) => {
-                table = Some(table_of(name)?);
-                println!(rt; "{line}")?;
-            }
-            (None, Some(table)) => show(&rt, table, line.as_str())?,
-            (None, None) => return Err(io::Error::from(ErrorKind::InvalidInput)),
-        }
+        table = Some(table_behind(&rt, table, line.as_str())?);
     }
     Ok(())
 }

@@ -46,7 +46,11 @@ fn refused(alloc: Global, words: &[String]) -> Result<String, Fault> {
 /// Returns what these words ask for.
 fn meaning(alloc: Global, words: &[String]) -> Result<String, Fault> {
     match read_words(alloc, words) {
-        Ok(order) => Ok(shown(alloc, &order)?),
+        Ok(order) => {
+            let text = shown(alloc, &order);
+            drop(order);
+            Ok(text?)
+        }
         Err(WordsError::Usage) => refused(alloc, words),
         Err(WordsError::NoMemory) => Err(Fault::NoMemory),
     }
