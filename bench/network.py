@@ -33,6 +33,8 @@ SLOTS = 4_000
 SHORT_PACKETS = (1_472, 1_280)
 HEALTHY = 0.8
 RECOVERED_WITHIN = 1.0
+# A disk that has much to write may keep nodes waiting at first.
+STARTED_WITHIN = 30.0
 # How much less is enough where a check asks only whether nodes live.
 PATIENCE = 5.0
 
@@ -109,11 +111,13 @@ class Trial:
         )
 
     def start(self) -> None:
-        """Starts the first nodes and the clients."""
+        """Starts the first nodes and the clients, and waits until each node answers."""
         for it in self.nodes:
             it.start()
         time.sleep(1.0)
         self._clients.start()
+        if self.await_answers(range(self.count), STARTED_WITHIN) >= STARTED_WITHIN:
+            raise Broken("at the start: " + "; ".join(it.last_words() for it in self.nodes))
         time.sleep(1.0)
 
     def stop(self) -> None:
@@ -331,6 +335,8 @@ def one_row(program: str, name: str, is_short: bool) -> Result:
         try:
             trial.start()
             return ROWS[name](trial, 2.0 if is_short else 5.0)
+        except Broken as why:
+            return Result("no answers", str(why))
         finally:
             trial.stop()
 

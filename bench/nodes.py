@@ -21,6 +21,8 @@ Address = Tuple[str, int]
 
 HOST = "127.0.0.1"
 FOR_EVER = 1_000_000_000_000
+# Ports of programs of this machine lie below, as far as they have one.
+FIRST_PORT, PORTS = 10_000, 65_536
 LARGEST_PACKET = 65_536
 # An entry's length field that names the cluster, and the length of that entry.
 CLUSTER_FIELD, CLUSTER_BYTES = 0x80000008, 8
@@ -31,15 +33,35 @@ def text_of(address: Address) -> str:
     return f"{address[0]}:{address[1]}"
 
 
+def own_ports() -> List[int]:
+    """The ports that no socket gets which asks for any, or all where this machine has none."""
+    with open("/proc/sys/net/ipv4/ip_local_port_range", encoding="ascii") as file:
+        first, last = map(int, file.read().split())
+    return [it for it in range(FIRST_PORT, PORTS) if not first <= it <= last] or list(range(FIRST_PORT, PORTS))
+
+
+def is_free(address: Address) -> bool:
+    """Whether no socket has this address."""
+    with socket.socket(socket.AF_INET, socket.SOCK_DGRAM) as trial:
+        try:
+            trial.bind(address)
+        except OSError:
+            return False
+    return True
+
+
 def free_addresses(count: int) -> List[Address]:
-    """So many addresses of this machine that no socket has."""
-    sockets = [socket.socket(socket.AF_INET, socket.SOCK_DGRAM) for _ in range(count)]
-    for it in sockets:
-        it.bind((HOST, 0))
-    addresses = [it.getsockname() for it in sockets]
-    for it in sockets:
-        it.close()
-    return addresses
+    """So many addresses of this machine that no socket has. None gets one by asking for any, so a node finds its own
+    free when it starts, and when it starts again."""
+    ports = own_ports()
+    random.shuffle(ports)
+    found = []
+    for port in ports:
+        if len(found) == count:
+            break
+        if is_free((HOST, port)):
+            found.append((HOST, port))
+    return found
 
 
 def closed_gate(log: bytes) -> int:
