@@ -1,2 +1,3 @@
 pub mod KeysLemmas
 pub mod ClientsLemmas
+pub mod StoredLemmas

@@ -7,16 +7,31 @@ ghost use Rattle.crsm_base.specs.Store.{value_at, change_key, found, put_key, wi
 ghost use Rattle.crsm_base.specs.declared.Op.{Op as OpOnPaper};
 ghost use Rattle.crsm_base.specs.declared.answer.Answer.{Answer as OnPaper};
 
+use crate::stored::StoredKey;
 use crsm_base::{Answer, Key, MAX_KEYS, NoMemory, Op, Val};
 use std::alloc::Global;
 use std::collections::BTreeMap;
 
 /// The values by their keys, in ascending key order.
-pub type Keys = BTreeMap<Key, Val>;
+pub type Keys = BTreeMap<StoredKey, Val>;
+
+/// Returns the value of the key, or `None` if the key is missing. A search of the map would need a copy of the key, and
+/// a copy takes memory; so this goes through the keys.
+#[tactic(auto, unfolding(crsm_base::specs::Store::value_at))]
+pub fn seek<'a>(keys: &'a Keys, key: &Key) -> Option<&'a Val>
+    ensures { option_copied result ≡ value_at key.now keys.now.entries }
+{
+    for (stored, value) in keys.iter() {
+        if stored.as_slice() == key.as_slice() {
+            return Some(value);
+        }
+    }
+    None
+}
 
 /// Returns the value of the key, or `None` if the key is missing.
 #[tactic(auto, using(crate::proofs::KeysLemmas::keys_rules))]
-pub fn value_of<'a>(keys: &'a Keys, key: &Key) -> Option<&'a Val>
+fn value_of<'a>(keys: &'a Keys, key: &StoredKey) -> Option<&'a Val>
     ensures { option_copied result ≡ value_at key.now keys.now.entries }
 {
     keys.get(key)
@@ -24,7 +39,7 @@ pub fn value_of<'a>(keys: &'a Keys, key: &Key) -> Option<&'a Val>
 
 /// Returns whether the key exists or one more key fits. There is nearly always room, so the count is tested before the
 /// key is looked up.
-fn has_room(keys: &Keys, key: &Key) -> bool
+fn has_room(keys: &Keys, key: &StoredKey) -> bool
     ensures { result ≡ (is_some (value_at key.now keys.now.entries) || nat_lt (length keys.now.entries) most_keys) }
 {
     keys.len() < MAX_KEYS as usize || value_of(keys, key).is_some()
@@ -88,18 +103,18 @@ fn differs(alloc: Global, value: Option<&Val>) -> Result<Answered, NoMemory>
 
 /// Sets the key, unless it is new and the store is full. `NoMemory` if memory runs out; the keys are then unchanged.
 #[tactic(auto, using(crate::proofs::KeysLemmas::keys_rules), unfolding(crsm_base::specs::Store::put_key))]
-fn put(alloc: Global, keys: &mut Keys, key: &Key, value: &Val) -> Result<Answered, NoMemory>
-    ensures told { IfOk result (λ made. (keys.new.entries, made.told) ≡ put_key key.now value.now keys.old.entries) }
+fn put(alloc: Global, keys: &mut Keys, key: StoredKey, value: &Val) -> Result<Answered, NoMemory>
+    ensures told { IfOk result (λ made. (keys.new.entries, made.told) ≡ put_key key value.now keys.old.entries) }
     ensures kept { IfOk result (λ made. made.kept ≡ made.told) }
     ensures err { OnErr result (keys.new.entries ≡ keys.old.entries) }
 {
-    if !has_room(keys, key) {
+    if !has_room(keys, &key) {
         return Ok(Answered {
             told: Answer::NoRoom,
             kept: Answer::NoRoom,
         });
     }
-    keys.insert(key.copy(alloc)?, value.copy(alloc)?)?;
+    keys.insert(key, value.copy(alloc)?)?;
     Ok(Answered {
         told: Answer::Done,
         kept: Answer::Done,
@@ -108,7 +123,7 @@ fn put(alloc: Global, keys: &mut Keys, key: &Key, value: &Val) -> Result<Answere
 
 /// Removes the key, and returns whether it existed.
 #[tactic(auto, using(crate::proofs::KeysLemmas::keys_rules))]
-fn remove(keys: &mut Keys, key: &Key) -> bool
+fn remove(keys: &mut Keys, key: &StoredKey) -> bool
     ensures existed { result ≡ is_some (value_at key.now keys.old.entries) }
     ensures rest { keys.new.entries ≡ without_key key.now keys.old.entries }
 {
@@ -117,7 +132,7 @@ fn remove(keys: &mut Keys, key: &Key) -> bool
 
 /// Removes the key and returns the answer to that: `Missing` if it does not exist.
 #[tactic(auto, unfolding(crsm_base::specs::Store::operate))]
-fn delete(keys: &mut Keys, key: &Key) -> Answered
+fn delete(keys: &mut Keys, key: &StoredKey) -> Answered
     ensures told { (keys.new.entries, result.told) ≡ operate keys.old.entries (OpOnPaper.Delete key.now) }
     ensures kept { result.kept ≡ result.told }
 {
@@ -140,23 +155,53 @@ fn delete(keys: &mut Keys, key: &Key) -> Answered
 fn change(
     alloc: Global,
     keys: &mut Keys,
-    key: &Key,
+    key: StoredKey,
     new: &Option<Val>,
 ) -> Result<Answered, NoMemory>
-    ensures told { IfOk result (λ made. (keys.new.entries, made.told) ≡ change_key key.now new.now keys.old.entries) }
+    ensures told { IfOk result (λ made. (keys.new.entries, made.told) ≡ change_key key new.now keys.old.entries) }
     ensures kept { IfOk result (λ made. made.kept ≡ made.told) }
     ensures err { OnErr result (keys.new.entries ≡ keys.old.entries) }
 {
     match new {
         Some(value) => put(alloc, keys, key, value),
         None => {
-            let _ = remove(keys, key);
+            let _ = remove(keys, &key);
             Ok(Answered {
                 told: Answer::Done,
                 kept: Answer::Done,
             })
         }
     }
+}
+
+/// Returns the answer to a get of the key. `NoMemory` if memory runs out.
+fn get(alloc: Global, keys: &Keys, key: &Key) -> Result<Answered, NoMemory>
+    ensures told { IfOk result (λ made. made.told ≡ found (value_at key.now keys.now.entries)) }
+    ensures kept { IfOk result (λ made. made.kept ≡ made.told) }
+{
+    let key = StoredKey::copy_of(alloc, key)?;
+    found(alloc, value_of(keys, &key))
+}
+
+/// Sets the key to the second value, or removes it if there is none, if it has the first. `NoMemory` if memory runs
+/// out; the keys are then unchanged.
+#[tactic(auto, unfolding(crsm_base::specs::Store::operate))]
+fn compare_and_set(
+    alloc: Global,
+    keys: &mut Keys,
+    key: StoredKey,
+    expected: &Option<Val>,
+    new: &Option<Val>,
+) -> Result<Answered, NoMemory>
+    ensures told { IfOk result (λ made. (keys.new.entries, made.told) ≡ operate keys.old.entries (OpOnPaper.Cas key expected.now new.now)) }
+    ensures kept { IfOk result (λ made. made.kept ≡ made.told) }
+    ensures err { OnErr result (keys.new.entries ≡ keys.old.entries) }
+{
+    let current = value_of(keys, &key);
+    if !is_expected(current, expected) {
+        return differs(alloc, current);
+    }
+    change(alloc, keys, key, new)
 }
 
 /// Executes the operation on the keys, and returns its answer. `NoMemory` if memory runs out; the keys are then
@@ -168,15 +213,12 @@ pub fn execute(alloc: Global, keys: &mut Keys, op: &Op) -> Result<Answered, NoMe
     ensures err { OnErr result (keys.new.entries ≡ keys.old.entries) }
 {
     match op {
-        Op::Get(key) => found(alloc, value_of(keys, key)),
-        Op::Put(key, value) => put(alloc, keys, key, value),
-        Op::Delete(key) => Ok(delete(keys, key)),
+        Op::Get(key) => get(alloc, keys, key),
+        Op::Put(key, value) => put(alloc, keys, StoredKey::copy_of(alloc, key)?, value),
+        Op::Delete(key) => Ok(delete(keys, &StoredKey::copy_of(alloc, key)?)),
         Op::Cas(key, expected, new) => {
-            let current = value_of(keys, key);
-            if !is_expected(current, expected) {
-                return differs(alloc, current);
-            }
-            change(alloc, keys, key, new)
+            let key = StoredKey::copy_of(alloc, key)?;
+            compare_and_set(alloc, keys, key, expected, new)
         }
     }
 }

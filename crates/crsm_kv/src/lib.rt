@@ -4,5 +4,6 @@
 mod clients;
 mod keys;
 mod store;
+mod stored;
 
 pub use store::Store;

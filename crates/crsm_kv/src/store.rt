@@ -100,7 +100,7 @@ impl Store {
     pub fn get(&self, key: &Key) -> Option<&Val>
         ensures { option_copied result ≡ value_at key.now self.now.keys }
     {
-        keys::value_of(&self.keys, key)
+        keys::seek(&self.keys, key)
     }
 
     /// Returns the number of clients.
