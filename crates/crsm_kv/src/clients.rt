@@ -1,6 +1,6 @@
 //! The clients in first-seen order, each with its last command and the answer to it.
 
-ghost use Rattle.std.specs.Prelude.{◌≡◌, ◌<◌, ℕ, IfSome, IsOk, OnOk, length};
+ghost use Rattle.std.specs.Prelude.{◌≡◌, ◌<◌, ℕ, IfSome, IsNone, IsOk, OnOk, length};
 ghost use Rattle.std.specs.Option.{option_map};
 ghost use Rattle.indexmap.specs.IndexMap.{spare};
 ghost use Rattle.crsm_base.specs.Store.{client_row, with_client};
@@ -39,22 +39,38 @@ pub fn count(clients: &Clients) -> usize
     clients.len()
 }
 
-/// Records the last command of a client whose row stands at this place.
-#[tactic(auto, using(crate::proofs::ClientsLemmas::clients_rules))]
-pub fn keep_at(clients: &mut Clients, place: usize, client: u64, kept: Kept)
-    requires { IsPlaceOf client (clients_of clients.old.entries) place }
-    ensures { clients_of clients.new.entries ≡ with_client (client_of (client, kept)) (clients_of clients.old.entries) }
+/// Makes room for the row of a client that has none. `NoMemory` if memory runs out. The rows do not change.
+pub fn reserve_for(clients: &mut Clients, place: Option<usize>) -> Result<(), NoMemory>
+    ensures rows { clients.new.entries ≡ clients.old.entries }
+    ensures room { OnOk result (IsNone place → 0 < spare clients.new) }
 {
-    clients[place] = kept;
+    if place.is_none() {
+        clients.reserve(1)?;
+    }
+    Ok(())
 }
 
-/// Records the client's last command. `NoMemory` if memory runs out, which cannot happen if the map has room for one
-/// more client.
+/// Records the client's last command, in the row at this place if it has one. `NoMemory` if memory runs out, which
+/// cannot happen if it has one or the map has room for one more client.
 #[tactic(auto, using(crate::proofs::ClientsLemmas::clients_rules))]
-pub fn keep(clients: &mut Clients, client: u64, kept: Kept) -> Result<(), NoMemory>
+pub fn keep(
+    clients: &mut Clients,
+    client: u64,
+    place: Option<usize>,
+    kept: Kept,
+) -> Result<(), NoMemory>
+    requires { IfSome place (IsPlaceOf client (clients_of clients.old.entries)) }
     ensures kept { OnOk result (clients_of clients.new.entries ≡ with_client (client_of (client, kept)) (clients_of clients.old.entries)) }
-    ensures succeeds { 0 < spare clients.old → IsOk result }
+    ensures succeeds { (IsNone place → 0 < spare clients.old) → IsOk result }
 {
-    clients.insert(client, kept)?;
-    Ok(())
+    match place {
+        Some(place) => {
+            clients[place] = kept;
+            Ok(())
+        }
+        None => {
+            clients.insert(client, kept)?;
+            Ok(())
+        }
+    }
 }

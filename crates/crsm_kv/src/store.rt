@@ -1,6 +1,6 @@
 //! The sequential store with its contract: one command at a time, each executed at most once.
 
-ghost use Rattle.std.specs.Prelude.{◌≡◌, IfOk, OnErr, OnOk, length};
+ghost use Rattle.std.specs.Prelude.{◌≡◌, IfOk, IfSome, OnErr, OnOk, length};
 ghost use Rattle.std.specs.Option.{option_copied};
 ghost use Rattle.crsm_base.specs.Store.{no_rows, apply, serve, client_row, value_at, done, operate};
 ghost use Rattle.crsm_kv.specs.Clients.{IsPlaceOf};
@@ -55,44 +55,28 @@ impl Store {
         match clients::last_of(&self.clients, command.client) {
             Some((_, kept)) if command.number == kept.number => kept.answer.copy(self.alloc),
             Some((_, kept)) if command.number < kept.number => Ok(Answer::Stale(kept.number)),
-            Some((place, _)) => self.execute(place, command),
+            Some((place, _)) => self.execute(Some(place), command),
             None if clients::count(&self.clients) >= MAX_CLIENTS as usize => Ok(Answer::NoRoom),
-            None => self.execute_first(command),
+            None => self.execute(None, command),
         }
     }
 
     #[tactic(auto, unfolding(crsm_base::specs::Store::done))]
-    /// Executes the command of a client whose row stands at this place, and records its answer. `NoMemory` changes
-    /// nothing.
-    fn execute(&mut self, place: usize, command: &Command) -> Result<Answer, NoMemory>
-        requires { IsPlaceOf command.now.client self.old.clients place }
-        ensures done { IfOk result (λ answer. (self.new, answer) ≡ done self.old command.now (operate self.old.keys command.now.op)) }
-        ensures err { OnErr result (self.new ≡ self.old) }
-    {
-        let Answered { told, kept } = keys::execute(self.alloc, &mut self.keys, &command.op)?;
-        let kept = Kept {
-            number: command.number,
-            answer: kept,
-        };
-        clients::keep_at(&mut self.clients, place, command.client, kept);
-        Ok(told)
-    }
-
-    #[tactic(auto, unfolding(crsm_base::specs::Store::done))]
-    /// Executes the first command of a client for which there is room, and records its answer. `NoMemory` changes
-    /// nothing.
-    fn execute_first(&mut self, command: &Command) -> Result<Answer, NoMemory>
+    /// Executes the command of a client whose row stands at this place, or that is new and has room, and records its
+    /// answer. `NoMemory` changes nothing.
+    fn execute(&mut self, place: Option<usize>, command: &Command) -> Result<Answer, NoMemory>
+        requires { IfSome place (IsPlaceOf command.now.client self.old.clients) }
         ensures done { IfOk result (λ answer. (self.new, answer) ≡ done self.old command.now (operate self.old.keys command.now.op)) }
         ensures err { OnErr result (self.new ≡ self.old) }
     {
         // The client's row gets its room before a key changes, so that nothing has to be undone.
-        self.clients.reserve(1)?;
+        clients::reserve_for(&mut self.clients, place)?;
         let Answered { told, kept } = keys::execute(self.alloc, &mut self.keys, &command.op)?;
         let kept = Kept {
             number: command.number,
             answer: kept,
         };
-        clients::keep(&mut self.clients, command.client, kept)?;
+        clients::keep(&mut self.clients, command.client, place, kept)?;
         Ok(told)
     }
 
