@@ -5,4 +5,5 @@ pub mod Commas
 pub mod TextLaws
 pub mod Hex
 pub mod Rows
+mod Copies
 mod Digits

@@ -14,9 +14,6 @@ const SPACED_BYTES: usize = 21;
 /// Maximum count of numbers in a row, which is formatted on the stack.
 const ROW_NUMBERS: usize = 8;
 
-/// Bytes of a number, a word of 8 bytes, 8 numbers and an end of 8 bytes, with spaces between them.
-const LINE_BYTES: usize = 208;
-
 /// Count of bytes that are formatted in hexadecimal at a time.
 const PIECE_BYTES: usize = 64;
 
@@ -75,63 +72,6 @@ fn digit(value: u8) -> u8
     } else {
         b'a' + (value - 10)
     }
-}
-
-// Writes the text so that it ends at `end`, and returns the index at which it starts.
-fn write_text(text: &[u8], row: &mut [u8], end: usize) -> usize
-    requires { (length text.now ≤ end) × (end ≤ length row.old) }
-    ensures start { result + length text.now ≡ end }
-    ensures written { drop result row.new ≡ text.now ++ drop end row.old }
-    ensures before { take result row.new ≡ take result row.old }
-{
-    let start = end - text.len();
-    row[start..end].copy_from_slice(text);
-    start
-}
-
-/// Appends a number, a word, the values and `end`, with a space before the word and before each value. All is formatted
-/// on the stack, from its end, and appended by a single call. `NoMemory` if memory runs out.
-pub fn push_numbered(
-    out: &mut Bytes,
-    number: u64,
-    name: &[u8],
-    values: &[u64],
-    end: &[u8],
-) -> Result<(), NoMemory>
-    requires name { length name.now ≤ 8 }
-    requires values { length values.now ≤ 8 }
-    requires end { length end.now ≤ 8 }
-    ensures { OnOk result (out.new ≡ out.old ++ (decimal number ++ 32 ∷ (named name.now values.now ++ end.now))) }
-{
-    let mut row = [b' '; LINE_BYTES];
-    let mut at = write_text(end, &mut row, LINE_BYTES);
-    let mut left = values.len();
-    while left > 0 {
-        left -= 1;
-        at = write_digits(values[left], &mut row, at) - 1;
-    }
-    let word = write_text(name, &mut row, at);
-    let begin = write_digits(number, &mut row, word - 1);
-    out.append(&row[begin..])
-}
-
-/// Appends a line of a number, a word, the values and a last number of up to 128 bits, with a space before the word and
-/// before each value. `NoMemory` if memory runs out.
-pub fn push_numbered_wide(
-    out: &mut Bytes,
-    number: u64,
-    name: &[u8],
-    values: &[u64],
-    last: u128,
-) -> Result<(), NoMemory>
-    requires name { length name.now ≤ 8 }
-    requires values { length values.now ≤ 8 }
-    ensures { OnOk result (out.new ≡ out.old ++ (decimal number ++ 32 ∷ (named name.now (values.now ++ last ∷ []) ++ 10 ∷ []))) }
-{
-    push_numbered(out, number, name, values, b" ")?;
-    let mut buffer = Buffer::new();
-    out.append(buffer.format(last).as_bytes())?;
-    out.push(b'\n')
 }
 
 // The digits of a piece are formatted on the stack and appended by a single call. The piece is padded with zeros, and

@@ -1,7 +1,7 @@
 use Rattle.std.proofs.Common.{◌≡◌, ◌++◌, ◌∷◌, [], ℕ, List, decimal, sym, ap, ◌∙◌, append_assoc}
 use Rattle.crsm_text.specs.Words.{named}
 use Rattle.crsm_text.proofs.Named.{named_more}
-use Rattle.crsm_text.proofs.print.push_numbered_wide.Goals as goal
+use Rattle.crsm_text.proofs.line.push_numbered_wide.Goals as goal
 
 -- a number, words, a last word and a line feed, as they are added one after another
 line_of : (out number words last : List ℕ)
