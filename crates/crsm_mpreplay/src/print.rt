@@ -2,11 +2,12 @@
 
 ghost use Rattle.std.specs.Prelude.{◌≡◌, ◌≤◌, ◌++◌, ◌∷◌, [], OnOk, codes, decimal, length};
 ghost use Rattle.crsm_text.specs.Words.{named, numbers};
+ghost use Rattle.crsm_text.specs.Values.{answer_text};
 ghost use Rattle.crsm_mpreplay.specs.Transcript.{kind_text, line_text, state_text};
 
-use crsm_base::{Bytes, NoMemory};
+use crsm_base::{Answer, Bytes, NoMemory};
 use crsm_mpspec::{MpKind, MpLine};
-use crsm_text::{push_answer, push_named, push_numbered, push_numbers};
+use crsm_text::{LineNumber, push_answer, push_named, push_numbers};
 
 /// Returns the word for a kind of message, with a space before it and a line feed after it.
 fn ended_kind(kind: MpKind) -> &'static [u8]
@@ -27,15 +28,39 @@ fn ended_kind(kind: MpKind) -> &'static [u8]
 /// Appends the number of a line, the part that the lines of all replies begin with, and a space.
 fn push_reply(
     out: &mut Bytes,
-    at: u64,
+    at: &LineNumber,
     replica: u32,
     client: u64,
     number: u64,
 ) -> Result<(), NoMemory>
-    ensures { OnOk result (out.new ≡ out.old ++ (decimal at ++ 32 ∷ (named (codes "reply") (replica ∷ client ∷ number ∷ []) ++ 32 ∷ []))) }
+    ensures { OnOk result (out.new ≡ out.old ++ (decimal at.now ++ 32 ∷ (named (codes "reply") (replica ∷ client ∷ number ∷ []) ++ 32 ∷ []))) }
 {
     let values = [u64::from(replica), client, number];
-    push_numbered(out, at, b"reply", &values, b" ")
+    at.push(out, b"reply", &values, b" ")
+}
+
+/// Appends a line that ends with an answer. The answers that have no value are appended with the line.
+fn push_answered(
+    out: &mut Bytes,
+    at: &LineNumber,
+    name: &[u8],
+    values: &[u64],
+    answer: &Answer,
+) -> Result<(), NoMemory>
+    requires name { length name.now ≤ 8 }
+    requires values { length values.now ≤ 8 }
+    ensures { OnOk result (out.new ≡ out.old ++ (decimal at.now ++ 32 ∷ ((named name.now values.now ++ 32 ∷ answer_text answer.now) ++ 10 ∷ []))) }
+{
+    match answer {
+        Answer::Missing => at.push(out, name, values, b" missing\n"),
+        Answer::Done => at.push(out, name, values, b" done\n"),
+        Answer::NoRoom => at.push(out, name, values, b" noroom\n"),
+        Answer::Found(_) | Answer::Differs(_) | Answer::Stale(_) => {
+            at.push(out, name, values, b" ")?;
+            push_answer(out, answer)?;
+            out.push(b'\n')
+        }
+    }
 }
 
 fn push_state(out: &mut Bytes, up: bool) -> Result<(), NoMemory>
@@ -60,13 +85,13 @@ fn push_final(out: &mut Bytes, replica: u32, up: bool, executed: u64) -> Result<
 
 /// Appends a line of the transcript with its line feed, after the number of the input line that caused it. A final line
 /// has no number. `NoMemory` if memory runs out; a prefix of the line may then have been appended.
-pub fn push_line(out: &mut Bytes, at: u64, line: &MpLine) -> Result<(), NoMemory>
-    ensures { OnOk result (out.new ≡ out.old ++ line_text at line.now) }
+pub fn push_line(out: &mut Bytes, at: &LineNumber, line: &MpLine) -> Result<(), NoMemory>
+    ensures { OnOk result (out.new ≡ out.old ++ line_text at.now line.now) }
 {
     match line {
         MpLine::Boot { replica, count } => {
             let values = [u64::from(*replica), *count];
-            push_numbered(out, at, b"boot", &values, b"\n")
+            at.push(out, b"boot", &values, b"\n")
         }
         MpLine::Submit {
             replica,
@@ -78,7 +103,7 @@ pub fn push_line(out: &mut Bytes, at: u64, line: &MpLine) -> Result<(), NoMemory
         } => {
             let (replica, by) = (u64::from(*replica), u64::from(*by));
             let values = [replica, *slot, *round, by, *client, *number];
-            push_numbered(out, at, b"submit", &values, b"\n")
+            at.push(out, b"submit", &values, b"\n")
         }
         MpLine::Accept {
             replica,
@@ -87,15 +112,15 @@ pub fn push_line(out: &mut Bytes, at: u64, line: &MpLine) -> Result<(), NoMemory
             by,
         } => {
             let values = [u64::from(*replica), *slot, *round, u64::from(*by)];
-            push_numbered(out, at, b"accept", &values, b"\n")
+            at.push(out, b"accept", &values, b"\n")
         }
         MpLine::Promise { replica, round, by } => {
             let values = [u64::from(*replica), *round, u64::from(*by)];
-            push_numbered(out, at, b"promise", &values, b"\n")
+            at.push(out, b"promise", &values, b"\n")
         }
         MpLine::Choose { replica, slot } => {
             let values = [u64::from(*replica), *slot];
-            push_numbered(out, at, b"choose", &values, b"\n")
+            at.push(out, b"choose", &values, b"\n")
         }
         MpLine::Exec {
             replica,
@@ -105,13 +130,11 @@ pub fn push_line(out: &mut Bytes, at: u64, line: &MpLine) -> Result<(), NoMemory
             answer,
         } => {
             let values = [u64::from(*replica), *slot, *client, *number];
-            push_numbered(out, at, b"exec", &values, b" ")?;
-            push_answer(out, answer)?;
-            out.push(b'\n')
+            push_answered(out, at, b"exec", &values, answer)
         }
         MpLine::ExecNoop { replica, slot } => {
             let values = [u64::from(*replica), *slot];
-            push_numbered(out, at, b"exec", &values, b" noop\n")
+            at.push(out, b"exec", &values, b" noop\n")
         }
         MpLine::Send {
             index,
@@ -120,7 +143,7 @@ pub fn push_line(out: &mut Bytes, at: u64, line: &MpLine) -> Result<(), NoMemory
             kind,
         } => {
             let values = [*index, u64::from(*from), u64::from(*to)];
-            push_numbered(out, at, b"send", &values, ended_kind(*kind))
+            at.push(out, b"send", &values, ended_kind(*kind))
         }
         MpLine::ReplyOk {
             replica,
@@ -157,7 +180,7 @@ pub fn push_line(out: &mut Bytes, at: u64, line: &MpLine) -> Result<(), NoMemory
         }
         MpLine::Down { replica } => {
             let values = [u64::from(*replica)];
-            push_numbered(out, at, b"down", &values, b"\n")
+            at.push(out, b"down", &values, b"\n")
         }
         MpLine::Final {
             replica,

@@ -13,6 +13,7 @@ use crsm_mpworld::MpWorld;
 use crsm_port_lines::Stop;
 use crsm_schedule::Event;
 use crsm_sim_schedule::{Cause, Simulation};
+use crsm_text::LineNumber;
 use std::alloc::Global;
 
 /// Memory in bytes reserved for the text of a line; few lines are longer.
@@ -44,8 +45,9 @@ fn push_lines(text: &mut Bytes, at: u64, lines: &MpLines) -> Result<(), NoMemory
 {
     let room = lines.as_slice().len().saturating_mul(LINE_ROOM);
     text.reserve(room)?;
+    let number = LineNumber::new(at);
     for line in lines.as_slice() {
-        push_line(text, at, line)?;
+        push_line(text, &number, line)?;
     }
     Ok(())
 }
