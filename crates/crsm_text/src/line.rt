@@ -14,7 +14,6 @@ const NUMBER_BYTES: usize = 24;
 const LINE_BYTES: usize = 216;
 
 // Writes a number so that its digits end at `end`, and returns the index at which they start. Most numbers are small.
-#[inline(always)]
 fn write_number(value: u64, row: &mut [u8], end: usize) -> usize
     requires { (length (decimal value) ≤ end) × (end ≤ length row.old) }
     ensures start { result + length (decimal value) ≡ end }
@@ -43,7 +42,6 @@ fn write_both<const SIZE: usize>(text: &[u8], row: &mut [u8], start: usize)
 }
 
 // Writes the text so that it ends at `end`, and returns the index at which it starts.
-#[inline(always)]
 fn write_text(text: &[u8], row: &mut [u8], end: usize) -> usize
     requires short { length text.now ≤ 16 }
     requires room { (length text.now ≤ end) × (end ≤ length row.old) }
@@ -65,6 +63,7 @@ fn write_text(text: &[u8], row: &mut [u8], end: usize) -> usize
 }
 
 // Fills the end of a row of spaces with a word, the values and `end`, and returns the index at which the word starts.
+#[inline(always)]
 fn write_words(row: &mut [u8; LINE_BYTES], name: &[u8], values: &[u64], end: &[u8]) -> usize
     requires spaces { (i : ℕ) → i < 216 → get_or row.old i 32 ≡ 32 }
     requires name { length name.now ≤ 8 }
@@ -157,6 +156,8 @@ impl LineNumber {
 
     /// Appends the number, a word, the values and `end`, with a space before the word and before each value. `NoMemory`
     /// if memory runs out.
+    // Compiled at each call, where the word and the count of the values are known.
+    #[inline(always)]
     pub fn push(
         &self,
         out: &mut Bytes,
