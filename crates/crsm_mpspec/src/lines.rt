@@ -1,6 +1,6 @@
 //! Lists of lines.
 
-ghost use Rattle.std.specs.Prelude.{◌≡◌, [], ◌∷◌, ◌++◌, take, OnOk, OnErr};
+ghost use Rattle.std.specs.Prelude.{◌≡◌, [], ◌∷◌, ◌++◌, ◌<◌, take, vec_capacity, vec_len, OnOk, OnErr};
 
 use crate::line::MpLine;
 use crsm_base::NoMemory;
@@ -22,6 +22,17 @@ impl Model for MpLines {
     ghost view = { λ l. l.items.items };
 }
 
+// Without this rare part `push` is so small that a line is written where it is to stand, and not copied there.
+#[cold]
+#[inline(never)]
+fn make_room(items: &mut Vec<MpLine>) -> Result<(), NoMemory>
+    ensures items { items.new.items ≡ items.old.items }
+    ensures room { OnOk result (vec_len items.new < vec_capacity items.new) }
+{
+    items.reserve(1)?;
+    Ok(())
+}
+
 impl MpLines {
     /// Returns the empty list.
     pub fn new(alloc: Global) -> MpLines
@@ -33,11 +44,15 @@ impl MpLines {
     }
 
     /// Appends a line. `NoMemory` if memory runs out; the list is then unchanged.
+    #[inline(always)]
     pub fn push(&mut self, item: MpLine) -> Result<(), NoMemory>
         ensures ok { OnOk result (self.new ≡ self.old ++ item ∷ []) }
         ensures err { OnErr result (self.new ≡ self.old) }
     {
-        self.items.push(item)?;
+        if self.items.len() == self.items.capacity() {
+            make_room(&mut self.items)?;
+        }
+        self.items.push_reserved(item);
         Ok(())
     }
 
