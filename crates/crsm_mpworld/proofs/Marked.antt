@@ -10,9 +10,9 @@ use Rattle.crsm_mpreplica.specs.Fitting.{FitsMessage}
 use Rattle.crsm_mpworld.specs.declared.network.Packet.{Packet}
 use Rattle.crsm_mpworld.specs.declared.network.MpNetwork.{MpNetwork}
 use Rattle.crsm_mpworld.specs.Fits.{FitsPacket}
-use Rattle.crsm_mpworld.specs.Packets.{HasFresh, IsPacket, MpNetworkStands, in_memory, is_fresh_for, is_up_among, used_up}
+use Rattle.crsm_mpworld.specs.Packets.{HasFresh, IsPacket, MpNetworkStands, in_memory, is_fresh_for, is_up_among, used_up, with_later}
 use Rattle.crsm_mpworld.proofs.PacketLists.{packets_length, packets_here, packets_used, fit_used, all_more}
-use Rattle.crsm_mpworld.proofs.Numbers.{has_used, has_sent, has_kept, has_fewer}
+use Rattle.crsm_mpworld.proofs.Numbers.{has_fewer, later_kept, later_sent, later_used, within_sent, within_used}
 
 pub marks : (old : MpNetwork) (packets : List PacketOnPaper) (bytes i : ℕ) (m : Packet) (fits : ∥ AllByRecursion FitsPacket (with_item old.packets i (record m { is_used = true })).items ∥₁)
     → MpNetworkStands old packets bytes → slice_get old.packets.items i ≡ Some m
@@ -22,8 +22,10 @@ marks old packets bytes i m fits h e =
     record {
       held = packets_used old.packets.items packets i m h.held at;
       fit = fit_used packets i m h.fit at;
-      fresh = has_used (λ k. true) packets i old.fresh.items h.fresh;
-      near = has_used (is_up_among old.ups.items) packets i old.near.items h.near;
+      fresh = later_used (λ k. true) packets i old.fresh.items old.fresh_end h.fresh;
+      near = later_used (is_up_among old.ups.items) packets i old.near.items old.near_end h.near;
+      fresh_end = within_used packets i old.fresh_end h.fresh_end;
+      near_end = within_used packets i old.near_end h.near_end;
       counted = h.counted;
     }
 
@@ -34,36 +36,43 @@ unmarked old packets bytes i h l =
     rw none h
 
 -- all that is fresh is near, whoever is up
-pub turned : (old : MpNetwork) (packets : List PacketOnPaper) (bytes : ℕ) (kept near : Vec ℕ Global) (ups : Vec Bool Global) (fits : ∥ AllByRecursion FitsPacket old.packets.items ∥₁) → MpNetworkStands old packets bytes
-    → kept.items ≡ filter (is_fresh_for (λ k. true) packets) old.fresh.items → near.items ≡ kept.items → MpNetworkStands (record old { fresh = kept; near = near; ups = ups; fits = fits }) packets bytes
-turned old packets bytes kept near ups fits h e f =
-    let fresh = has_kept (λ k. true) packets old.fresh.items kept.items h.fresh e in
+pub turned : (old : MpNetwork) (packets : List PacketOnPaper) (bytes : ℕ) (kept near : Vec ℕ Global) (ups : Vec Bool Global) (end : ℕ) (fits : ∥ AllByRecursion FitsPacket old.packets.items ∥₁) → MpNetworkStands old packets bytes
+    → kept.items ≡ filter (is_fresh_for (λ k. true) packets) (with_later old.fresh.items old.fresh_end packets) → near.items ≡ kept.items → end ≡ length packets
+    → MpNetworkStands (record old { fresh = kept; fresh_end = end; near = near; near_end = end; ups = ups; fits = fits }) packets bytes
+turned old packets bytes kept near ups end fits h e f g =
+    let fresh = later_kept (λ k. true) packets _ kept.items end h.fresh e g in
     record {
       held = h.held;
       fit = h.fit;
       fresh = fresh;
-      near = subst (HasFresh (is_up_among ups.items) packets) (sym f) (has_fewer (is_up_among ups.items) packets kept.items fresh);
+      near = subst (λ (is : List ℕ). HasFresh (is_up_among ups.items) packets (with_later is end packets)) (sym f) (has_fewer (is_up_among ups.items) packets (with_later kept.items end packets) fresh);
+      fresh_end = omega (arith, g);
+      near_end = omega (arith, g);
       counted = h.counted;
     }
 
 -- those that are due stay near
-pub nears : (old : MpNetwork) (packets : List PacketOnPaper) (bytes : ℕ) (near : Vec ℕ Global) (fits : ∥ AllByRecursion FitsPacket old.packets.items ∥₁) → MpNetworkStands old packets bytes
-    → near.items ≡ filter (is_fresh_for (is_up_among old.ups.items) packets) old.near.items → MpNetworkStands (record old { near = near; fits = fits }) packets bytes
-nears old packets bytes near fits h e = record {
+pub nears : (old : MpNetwork) (packets : List PacketOnPaper) (bytes : ℕ) (near : Vec ℕ Global) (end : ℕ) (fits : ∥ AllByRecursion FitsPacket old.packets.items ∥₁) → MpNetworkStands old packets bytes
+    → near.items ≡ filter (is_fresh_for (is_up_among old.ups.items) packets) (with_later old.near.items old.near_end packets) → end ≡ length packets
+    → MpNetworkStands (record old { near = near; near_end = end; fits = fits }) packets bytes
+nears old packets bytes near end fits h e f = record {
   held = h.held;
   fit = h.fit;
   fresh = h.fresh;
-  near = has_kept (is_up_among old.ups.items) packets old.near.items near.items h.near e;
+  near = later_kept (is_up_among old.ups.items) packets _ near.items end h.near e f;
+  fresh_end = h.fresh_end;
+  near_end = omega (arith, f);
   counted = h.counted;
 }
 
-pub sends : (old : MpNetwork) (packets : List PacketOnPaper) (bytes : ℕ) (items : Vec Packet Global) (fresh near : Vec ℕ Global) (fits : ∥ AllByRecursion FitsPacket items.items ∥₁) (m : Packet) (p : PacketOnPaper) → MpNetworkStands old packets bytes
-    → items.items ≡ old.packets.items ++ m ∷ [] → fresh.items ≡ old.fresh.items ++ length packets ∷ [] → near.items ≡ old.near.items ++ length packets ∷ [] → IsPacket m p
-    → MpNetworkStands (record old { packets = items; fresh = fresh; near = near; fits = fits }) (packets ++ p ∷ []) bytes
-sends old packets bytes items fresh near fits m p h e f g is = record {
+pub sends : (old : MpNetwork) (packets : List PacketOnPaper) (bytes : ℕ) (items : Vec Packet Global) (fits : ∥ AllByRecursion FitsPacket items.items ∥₁) (m : Packet) (p : PacketOnPaper) → MpNetworkStands old packets bytes
+    → items.items ≡ old.packets.items ++ m ∷ [] → IsPacket m p → MpNetworkStands (record old { packets = items; fits = fits }) (packets ++ p ∷ []) bytes
+sends old packets bytes items fits m p h e is = record {
   held = e ∙ ap (λ ms. ms ++ m ∷ []) h.held ∙ ap (λ x. map in_memory packets ++ x ∷ []) is.is ∙ sym (map-append in_memory packets (p ∷ []));
   fit = all_more (λ q. FitsMessage q.message) packets p h.fit is.fits;
-  fresh = subst (HasFresh (λ k. true) (packets ++ p ∷ [])) (sym f) (has_sent (λ k. true) packets p old.fresh.items h.fresh);
-  near = subst (HasFresh (is_up_among old.ups.items) (packets ++ p ∷ [])) (sym g) (has_sent (is_up_among old.ups.items) packets p old.near.items h.near);
+  fresh = later_sent (λ k. true) packets p old.fresh.items old.fresh_end h.fresh_end h.fresh;
+  near = later_sent (is_up_among old.ups.items) packets p old.near.items old.near_end h.near_end h.near;
+  fresh_end = within_sent packets p old.fresh_end h.fresh_end;
+  near_end = within_sent packets p old.near_end h.near_end;
   counted = h.counted;
 }

@@ -1,12 +1,12 @@
 -- The numbers of the fresh messages.
-use Rattle.std.proofs.Common.{◌≡◌, ◌<◌, ◌≤◌, ◌+◌, ℕ, zero, suc, Bool, true, false, ◌&&◌, not, cond, List, [], ◌∷◌, ◌++◌, length, map, set, Some, None, refl, ap, sym, ◌∙◌, subst, arith, append_assoc, length-append}
+use Rattle.std.proofs.Common.{◌≡◌, ◌<◌, ◌≤◌, ◌+◌, ℕ, zero, suc, Bool, true, false, ◌&&◌, not, cond, List, [], ◌∷◌, ◌++◌, length, map, set, Some, None, refl, ap, sym, ◌∙◌, subst, arith, append_assoc, length-append, append-nil, ◌-◌}
 use Rattle.std.specs.Prelude.{slice_get, filter}
 use Rattle.std.specs.List.{AllByRecursion, enumerate_from, range_with_len}
 use Rattle.std.specs.Option.{option_map_or}
 use Rattle.std.proofs.lemmas.List.{length-set}
 use Rattle.std.proofs.lemmas.List.Elements.{filter-append}
 use Rattle.crsm_mpspec.specs.World.{Packet}
-use Rattle.crsm_mpworld.specs.Packets.{is_fresh_for, used_up, numbers_of, HasFresh}
+use Rattle.crsm_mpworld.specs.Packets.{is_fresh_for, used_up, numbers_of, with_later, HasFresh}
 
 -- ---- filters
 
@@ -99,7 +99,7 @@ others : (test : ℕ → Bool) (packets : List Packet) (i : ℕ) (is : List ℕ)
 others test packets i is =
     filter_alike (is_fresh_for test (used_up i packets)) (λ j. is_fresh_for test packets j && other i j) is (fresh_after test packets i) ∙ sym (filter_both (is_fresh_for test packets) (other i) is)
 
-pub has_used : (test : ℕ → Bool) (packets : List Packet) (i : ℕ) (is : List ℕ) → HasFresh test packets is → HasFresh test (used_up i packets) is
+has_used : (test : ℕ → Bool) (packets : List Packet) (i : ℕ) (is : List ℕ) → HasFresh test packets is → HasFresh test (used_up i packets) is
 has_used test packets i is h = record {
   sent = subst (λ (n : ℕ). AllByRecursion (λ j. j < n) is) (sym (used_length packets i)) h.sent;
   all = others test packets i is ∙ ap (filter (other i)) h.all ∙ sym (others test packets i (numbers_of packets))
@@ -132,7 +132,7 @@ all_wider : (n : ℕ) (is : List ℕ) → AllByRecursion (λ i. i < n) is → Al
 all_wider n [] all = (omega arith, tt)
 all_wider n (i ∷ is) all = (let l = all.0 in omega arith, all_wider n is all.1)
 
-pub has_sent : (test : ℕ → Bool) (packets : List Packet) (m : Packet) (is : List ℕ) → HasFresh test packets is → HasFresh test (packets ++ m ∷ []) (is ++ length packets ∷ [])
+has_sent : (test : ℕ → Bool) (packets : List Packet) (m : Packet) (is : List ℕ) → HasFresh test packets is → HasFresh test (packets ++ m ∷ []) (is ++ length packets ∷ [])
 has_sent test packets m is h = record {
   sent = subst (λ (n : ℕ). AllByRecursion (λ i. i < n) (is ++ length packets ∷ [])) (sym (length-append packets (m ∷ []))) (all_wider (length packets) is h.sent);
   all = more_filtered test packets m is h.sent ∙ ap (λ js. js ++ filter (is_fresh_for test (packets ++ m ∷ [])) (length packets ∷ [])) h.all
@@ -169,6 +169,52 @@ has_fewer test packets is h = record {
   sent = h.sent;
   all = fewer test packets is ∙ ap (filter (is_fresh_for test packets)) h.all ∙ sym (fewer test packets (numbers_of packets));
 }
+
+-- ---- numbers from one on
+
+-- a number more
+range_next : (is : List ℕ) (a k : ℕ) → a ≤ k → (is ++ range_with_len a (k - a)) ++ k ∷ [] ≡ is ++ range_with_len a (k + 1 - a)
+range_next is a k l =
+    let e : (k - a) + 1 ≡ k + 1 - a = omega (arith, l) in
+    let f : k ≡ a + (k - a) = omega (arith, l) in
+    append_assoc is (range_with_len a (k - a)) (k ∷ [])
+    ∙ ap (λ js. is ++ js) (ap (λ i. range_with_len a (k - a) ++ i ∷ []) f ∙ sym (range_more a (k - a)) ∙ ap (range_with_len a) e)
+
+-- none
+pub range_none : (is : List ℕ) (a n : ℕ) → n ≤ a → is ≡ is ++ range_with_len a (n - a)
+range_none is a n l = sym (append-nil is) ∙ ap (λ m. is ++ range_with_len a m) (let z : 0 ≡ n - a = omega (arith, l) in z)
+
+pub filter_later : (test : ℕ → Bool) (is : List ℕ) (a k : ℕ) → a ≤ k
+    → filter test (is ++ range_with_len a (k - a)) ++ filter test (k ∷ []) ≡ filter test (is ++ range_with_len a (k + 1 - a))
+filter_later test is a k l = sym (filter-append test (is ++ range_with_len a (k - a)) (k ∷ [])) ∙ ap (filter test) (range_next is a k l)
+
+pub later_none : (packets : List Packet) (is : List ℕ) (from : ℕ) → from ≡ length packets → is ≡ with_later is from packets
+later_none packets is from e = range_none is from (length packets) (omega (arith, e))
+
+later_more : (packets : List Packet) (m : Packet) (is : List ℕ) (from : ℕ) → from ≤ length packets → with_later is from packets ++ length packets ∷ [] ≡ with_later is from (packets ++ m ∷ [])
+later_more packets m is from l =
+    range_next is from (length packets) l
+    ∙ ap (λ n. is ++ range_with_len from n) (let e : length packets + 1 - from ≡ length (packets ++ m ∷ []) - from = omega (arith, length-append packets (m ∷ [])) in e)
+
+pub later_sent : (test : ℕ → Bool) (packets : List Packet) (m : Packet) (is : List ℕ) (from : ℕ) → from ≤ length packets
+    → HasFresh test packets (with_later is from packets) → HasFresh test (packets ++ m ∷ []) (with_later is from (packets ++ m ∷ []))
+later_sent test packets m is from l h = subst (HasFresh test (packets ++ m ∷ [])) (later_more packets m is from l) (has_sent test packets m (with_later is from packets) h)
+
+pub within_sent : (packets : List Packet) (m : Packet) (from : ℕ) → from ≤ length packets → from ≤ length (packets ++ m ∷ [])
+within_sent packets m from l = omega (arith, l, length-append packets (m ∷ []))
+
+pub later_used : (test : ℕ → Bool) (packets : List Packet) (i : ℕ) (is : List ℕ) (from : ℕ)
+    → HasFresh test packets (with_later is from packets) → HasFresh test (used_up i packets) (with_later is from (used_up i packets))
+later_used test packets i is from h =
+    subst (λ (n : ℕ). HasFresh test (used_up i packets) (is ++ range_with_len from (n - from))) (sym (used_length packets i)) (has_used test packets i (with_later is from packets) h)
+
+pub within_used : (packets : List Packet) (i from : ℕ) → from ≤ length packets → from ≤ length (used_up i packets)
+within_used packets i from l = omega (arith, l, used_length packets i)
+
+-- of these numbers those that are kept, where no message is later
+pub later_kept : (test : ℕ → Bool) (packets : List Packet) (is kept : List ℕ) (end : ℕ) → HasFresh test packets is → kept ≡ filter (is_fresh_for test packets) is
+    → end ≡ length packets → HasFresh test packets (with_later kept end packets)
+later_kept test packets is kept end h e f = subst (HasFresh test packets) (later_none packets kept end f) (has_kept test packets is kept h e)
 
 -- ---- by place
 

@@ -1,5 +1,5 @@
 -- The messages of a world, in memory.
-use Rattle.std.specs.Prelude.{◌≡◌, ◌<◌, ◌+◌, ◌^◌, ℕ, Bool, ◌&&◌, not, true, false, List, map, filter, length, Option, Some, option_map, slice_get, slice_set}
+use Rattle.std.specs.Prelude.{◌≡◌, ◌<◌, ◌≤◌, ◌+◌, ◌-◌, ◌^◌, ◌++◌, ℕ, Bool, ◌&&◌, not, true, false, List, map, filter, length, Option, Some, option_map, slice_get, slice_set}
 use Rattle.std.specs.List.{AllByRecursion, range_with_len}
 use Rattle.std.specs.Option.{option_map_or}
 use Rattle.crsm_base.specs.Limits.{most_world}
@@ -50,6 +50,10 @@ is_up_among ups k = option_map_or (λ up. up) (slice_get ups k) false
 abbrev pub numbers_of : List PacketOnPaper → List ℕ
 numbers_of packets = range_with_len 0 (length packets)
 
+-- these numbers, and then those of the messages from number `from` on
+abbrev pub with_later : List ℕ → ℕ → List PacketOnPaper → List ℕ
+with_later numbers from packets = numbers ++ range_with_len from (length packets - from)
+
 -- The numbers are those of messages, with all fresh ones whose receivers pass the test, ascending.
 pub record HasFresh (test : ℕ → Bool) (packets : List PacketOnPaper) (numbers : List ℕ) : Type 0 where
   pub sent : AllByRecursion (λ i. i < length packets) numbers
@@ -61,8 +65,10 @@ pub record HasFresh (test : ℕ → Bool) (packets : List PacketOnPaper) (number
 pub record MpNetworkStands (network : MpNetwork) (packets : List PacketOnPaper) (bytes : ℕ) : Type 0 where
   pub held : network.packets.items ≡ map in_memory packets
   pub fit : AllByRecursion (λ p. FitsMessage p.message) packets
-  pub fresh : HasFresh (λ k. true) packets network.fresh.items
-  pub near : HasFresh (is_up_among network.ups.items) packets network.near.items
+  pub fresh : HasFresh (λ k. true) packets (with_later network.fresh.items network.fresh_end packets)
+  pub near : HasFresh (is_up_among network.ups.items) packets (with_later network.near.items network.near_end packets)
+  pub fresh_end : network.fresh_end ≤ length packets
+  pub near_end : network.near_end ≤ length packets
   pub counted : network.bytes ≡ bytes
 
 -- the world's size is below its limit

@@ -2,7 +2,7 @@
 //! unless other replicas are up now: messages to a replica that stays down are not looked at again.
 
 ghost use Rattle.std.specs.Prelude.{◌≡◌, ◌++◌, ◌∷◌, [], true, filter, IfOk, OnOk};
-ghost use Rattle.crsm_mpworld.specs.Packets.{MpNetworkStands, WhereNetwork, is_fresh_for, is_up_among, numbers_of};
+ghost use Rattle.crsm_mpworld.specs.Packets.{MpNetworkStands, WhereNetwork, is_fresh_for, is_up_among, numbers_of, with_later};
 
 use crate::network::MpNetwork;
 use crsm_base::NoMemory;
@@ -30,14 +30,17 @@ impl MpNetwork {
         Ok(())
     }
 
-    /// Returns the numbers of those in `fresh` that are still fresh.
+    /// Returns the numbers of the messages that are still fresh.
     fn still_fresh(&self) -> Result<Vec<u64>, NoMemory>
         ensures { IfOk result (λ kept. WhereNetwork self.now (λ packets bytes.
-            kept.items ≡ filter (is_fresh_for (λ k. true) packets) self.now.fresh.items)) }
+            kept.items ≡ filter (is_fresh_for (λ k. true) packets) (with_later self.now.fresh.items self.now.fresh_end packets))) }
     {
         let mut kept = Vec::new(self.alloc);
         for number in &self.fresh {
             self.add_fresh(*number, &mut kept)?;
+        }
+        for later in self.fresh_end..self.count() {
+            self.add_fresh(later, &mut kept)?;
         }
         Ok(kept)
     }
@@ -47,9 +50,12 @@ impl MpNetwork {
         ensures stands { OnOk result (WhereNetwork self.old (λ packets bytes. MpNetworkStands self.new packets bytes)) }
         ensures ups { OnOk result (self.new.ups.items ≡ ups.now) }
     {
+        let end = self.count();
         let fresh = self.still_fresh()?;
         self.near = Vec::from_slice(self.alloc, fresh.as_slice())?;
         self.fresh = fresh;
+        self.fresh_end = end;
+        self.near_end = end;
         self.ups = Vec::from_slice(self.alloc, ups)?;
         Ok(())
     }
@@ -91,12 +97,15 @@ impl MpNetwork {
     /// Returns the candidates that can be delivered, in the memory of another list.
     fn still_due(&self, memory: Vec<u64>) -> Result<Vec<u64>, NoMemory>
         ensures { IfOk result (λ due. WhereNetwork self.now (λ packets bytes.
-            due.items ≡ filter (is_fresh_for (is_up_among self.now.ups.items) packets) self.now.near.items)) }
+            due.items ≡ filter (is_fresh_for (is_up_among self.now.ups.items) packets) (with_later self.now.near.items self.now.near_end packets))) }
     {
         let mut due = memory;
         due.clear();
         for number in &self.near {
             self.add_due(*number, &mut due)?;
+        }
+        for later in self.near_end..self.count() {
+            self.add_due(later, &mut due)?;
         }
         Ok(due)
     }
@@ -109,9 +118,11 @@ impl MpNetwork {
             due.items ≡ filter (is_fresh_for (is_up_among ups.now) packets) (numbers_of packets))) }
     {
         self.see(ups)?;
+        let end = self.count();
         let due = self.still_due(memory)?;
         self.near.clear();
         self.near.extend_from_slice(due.as_slice())?;
+        self.near_end = end;
         Ok(due)
     }
 }

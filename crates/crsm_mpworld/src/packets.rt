@@ -31,8 +31,10 @@ impl MpNetwork {
             alloc,
             packets: Vec::new(alloc),
             fresh: Vec::new(alloc),
+            fresh_end: 0,
             ups: Vec::new(alloc),
             near: Vec::new(alloc),
+            near_end: 0,
             bytes: 0,
         }
     }
@@ -115,10 +117,7 @@ impl MpNetwork {
         ensures { OnOk result (WhereNetwork self.old (λ packets bytes.
             MpNetworkStands self.new (packets ++ on_paper.packet_of from (send.to, send.message) ∷ []) bytes)) }
     {
-        let number = self.count();
         let MpSend { to, message } = send;
-        self.fresh.push(number)?;
-        self.near.push(number)?;
         let packet = Packet {
             from,
             to,
