@@ -1,6 +1,6 @@
 //! The sending of a step's output.
 
-ghost use Rattle.std.specs.Prelude.{◌≡◌, [], ◌∷◌, ℕ, List, map, OnOk};
+ghost use Rattle.std.specs.Prelude.{◌≡◌, ◌++◌, [], ◌∷◌, ℕ, List, map, OnOk};
 ghost use Rattle.std.specs.List.{AllByRecursion};
 ghost use Rattle.crsm_mpreplica.specs.Made.{to_send};
 ghost use Rattle.crsm_mpspec.specs.declared.message.MpMessage.{MpMessage as Message};
@@ -36,7 +36,7 @@ fn send_one(
 }
 
 /// Takes these messages from replica `k` out in order, records them, and appends their lines.
-fn send_all(
+fn send_each(
     network: &mut MpNetwork,
     k: u32,
     sends: &mut MpSends,
@@ -49,6 +49,43 @@ fn send_all(
     while let Some(send) = sends.pop_first() {
         send_one(network, k, send, lines)?;
     }
+    Ok(())
+}
+
+/// Does the same. Often there are none.
+fn send_all(
+    network: &mut MpNetwork,
+    k: u32,
+    sends: &mut MpSends,
+    lines: &mut MpLines,
+) -> Result<(), NoMemory>
+    requires { AllByRecursion FitsSend sends.old }
+    ensures { OnOk result (WhereNetwork network.old (λ packets bytes. (out : List (ℕ × Message)) → sends.old ≡ map to_send out →
+        HasSent k out packets bytes lines.old network.new lines.new)) }
+{
+    if sends.len() == 0 {
+        return Ok(());
+    }
+    send_each(network, k, sends, lines)?;
+    Ok(())
+}
+
+/// Moves lines to the end of others. Often there are none.
+fn move_lines(from: &mut MpLines, lines: &mut MpLines) -> Result<(), NoMemory>
+    ensures { OnOk result (lines.new ≡ lines.old ++ from.old) }
+{
+    if from.as_slice().is_empty() {
+        return Ok(());
+    }
+    lines.append(from)?;
+    Ok(())
+}
+
+/// Appends the line that a replica goes down.
+fn tell_down(k: u32, lines: &mut MpLines) -> Result<(), NoMemory>
+    ensures { OnOk result (lines.new ≡ lines.old ++ MpLine.Down k ∷ []) }
+{
+    lines.push(MpLine::Down { replica: k })?;
     Ok(())
 }
 
@@ -67,13 +104,13 @@ fn let_out(
 {
     let made = step.batch.sends.len() as u64;
     network.keep(step.size);
-    lines.append(&mut step.batch.lines)?;
+    move_lines(&mut step.batch.lines, lines)?;
     step.batch.sends.truncate(count.min(made) as usize);
     send_all(network, k, &mut step.batch.sends, lines)?;
     step.batch
         .replies
         .truncate(count.saturating_sub(made) as usize);
-    lines.append(&mut step.batch.replies)?;
+    move_lines(&mut step.batch.replies, lines)?;
     Ok(())
 }
 
@@ -89,9 +126,9 @@ fn let_all_out(
     ensures { OnOk result (WhereMade network.old step.old (λ packets bytes x. LetsOut lines.old packets bytes k x x.sends x.replies network.new lines.new)) }
 {
     network.keep(step.size);
-    lines.append(&mut step.batch.lines)?;
+    move_lines(&mut step.batch.lines, lines)?;
     send_all(network, k, &mut step.batch.sends, lines)?;
-    lines.append(&mut step.batch.replies)?;
+    move_lines(&mut step.batch.replies, lines)?;
     Ok(())
 }
 
@@ -114,11 +151,11 @@ pub(crate) fn leave(
         }
         MpEffects::Cut { k, sends } => {
             let_out(network, k, step, sends, lines)?;
-            lines.push(MpLine::Down { replica: k })?;
+            tell_down(k, lines)?;
             Ok(())
         }
         MpEffects::Down { k } => {
-            lines.push(MpLine::Down { replica: k })?;
+            tell_down(k, lines)?;
             Ok(())
         }
     }

@@ -12,9 +12,9 @@ returns c packets bytes x h makes =
     let long = c.len-made.ensures ∙ ap length makes.batch.sends ∙ length-map x.sends to_send in
     let sends = sends_taken c.args.count c.min.result c.len-made.result x.sends c.args.step.now.batch.sends _ makes.batch.sends c.len-made.ensures c.min.ensures c.truncate.ensures in
     let sent = c.in_ok-send_all.ensures packets _ kept (take c.args.count x.sends) sends in
-    lets_out c.args.lines.now c.append.new.self c.send_all.new.lines c.append-2.new.self packets bytes c.args.k c.args.step.now.size x _ _ c.send_all.new.network makes.size
-    (c.in_ok-append.ensures.ok ∙ ap (λ ls. c.args.lines.now ++ ls) makes.batch.lines) sent
-    (c.in_ok-append-2.ensures.ok ∙ ap (λ ls. c.send_all.new.lines ++ ls) (c.truncate-2.ensures ∙ ap (take c.saturating_sub.result) makes.batch.replies
+    lets_out c.args.lines.now c.move_lines.new.lines c.send_all.new.lines c.move_lines-2.new.lines packets bytes c.args.k c.args.step.now.size x _ _ c.send_all.new.network makes.size
+    (c.in_ok-move_lines.ensures ∙ ap (λ ls. c.args.lines.now ++ ls) makes.batch.lines) sent
+    (c.in_ok-move_lines-2.ensures ∙ ap (λ ls. c.send_all.new.lines ++ ls) (c.truncate-2.ensures ∙ ap (take c.saturating_sub.result) makes.batch.replies
     ∙ ap (λ n. take n x.replies) (c.saturating_sub.ensures ∙ ap (λ n. c.args.count - n) long)))
 
 pub send_all-requires : goal.send_all-requires

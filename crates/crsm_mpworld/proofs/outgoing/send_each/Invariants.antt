@@ -6,7 +6,7 @@ use Rattle.crsm_mpspec.specs.World as on_paper
 use Rattle.crsm_mpworld.specs.Fits.{FitsSend}
 use Rattle.crsm_mpworld.specs.Packets.{MpNetworkStands}
 use Rattle.crsm_mpworld.proofs.Letting.{Going}
-use Rattle.crsm_mpworld.proofs.outgoing.send_all.Given as goal
+use Rattle.crsm_mpworld.proofs.outgoing.send_each.Given as goal
 
 abbrev pub invariant-loop-send : goal.invariant-loop-send
 invariant-loop-send l = record {
