@@ -1,9 +1,9 @@
 -- Control messages, each by the rule of its kind.
-use Rattle.std.proofs.Common.{◌≡◌, ◌∙◌, ℕ, refl, Bool, true, false, List}
-use Rattle.std.specs.Prelude.{Option, Some, None, nat_lt, length}
+use Rattle.std.proofs.Common.{◌≡◌, ◌∙◌, ℕ, refl, List}
+use Rattle.std.specs.Prelude.{Option, nat_lt, length}
 use Rattle.crsm_spec.specs.Types.{Stamp, Ballot, Entry, Decision, Control}
 use Rattle.crsm_spec.specs.Choice.{when◌then◌otherwise◌}
-use Rattle.crsm_spec.specs.Log.{known, executed}
+use Rattle.crsm_spec.specs.Log.{executed}
 use Rattle.crsm_spec.specs.Draft.{Draft, send_control}
 use Rattle.crsm_spec.specs.Controls.{on_control, on_suspend, on_p1a, on_p2a, on_decide, on_retrieve, page_from}
 use Rattle.crsm_replica_reconfigure.specs.Rules.{receives_answer, receives_no, receives_vote, on_page_in}

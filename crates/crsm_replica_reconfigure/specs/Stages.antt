@@ -6,12 +6,12 @@ use Rattle.crsm_spec.specs.Lists.{has, numbers_below}
 use Rattle.crsm_spec.specs.Log.{accepted, decision}
 use Rattle.crsm_spec.specs.Paxos.{Answer, Held}
 use Rattle.crsm_spec.specs.Quorum.{has_majority}
-use Rattle.crsm_spec.specs.Replica.{LogPage, Coordinator as CoordinatorOnPaper, spec_of}
+use Rattle.crsm_spec.specs.Replica.{Replica, LogPage, Coordinator as CoordinatorOnPaper, spec_of, others}
 use Rattle.crsm_spec.specs.Draft.{Draft}
 use Rattle.crsm_spec.specs.Step.{if_fitting}
 use Rattle.crsm_suspend.specs.declared.collect.Collect.{Collect}
 use Rattle.crsm_replica_coordinator.specs.declared.coordinator.Coordinator.{Coordinator}
-use Rattle.crsm_replica_coordinator.specs.Coordinator.{CoordinatorStands, IsGathering, IsOwn}
+use Rattle.crsm_replica_coordinator.specs.Coordinator.{CoordinatorStands, IsGathering, IsOwn, counted_of}
 use Rattle.crsm_replica_coordinator.specs.Stages.{answer_of}
 use Rattle.crsm_replica.specs.declared.state.ReplicaState.{ReplicaState}
 use Rattle.crsm_replica.specs.Replica.{ReplicaStands}
@@ -83,6 +83,10 @@ unfoldable pub round_of : CoordinatorOnPaper → Option (ℕ × Ballot)
 round_of (CoordinatorOnPaper.Preparing b own answers) = Some (own.epoch, b)
 round_of (CoordinatorOnPaper.Proposing b own value acceptors) = Some (own.epoch, b)
 round_of _ = None
+
+-- the other counted replicas whose promise or vote is not counted
+abbrev pub not_counted : Replica → List ℕ
+not_counted r = filter (λ k. not (has (counted_of r.coordinator) k)) (others r)
 
 -- ---- it proposes
 

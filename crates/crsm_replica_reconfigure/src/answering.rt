@@ -87,8 +87,15 @@ fn may_propose_with(
     let Some((ballot, value)) = found else {
         return Ok(false);
     };
-    let is_alone = is_alone(state)?;
-    let fits = fits_own(state, ballot, &value, is_alone)?;
+    let Ok(is_alone) = is_alone(state) else {
+        drop(value);
+        return Err(NoMemory);
+    };
+    let Ok(fits) = fits_own(state, ballot, &value, is_alone) else {
+        drop(value);
+        return Err(NoMemory);
+    };
+    drop(value);
     Ok(fits)
 }
 

@@ -39,7 +39,11 @@ pub fn may_begin(state: &ReplicaState, own: &Decision, seen: Ballot) -> Result<b
     let ballot = above(top, state.me());
     let accepted = state.accepted()?;
     let value = value_alone(own, &accepted);
-    let fits = fits_own(state, ballot, value, true)?;
+    let Ok(fits) = fits_own(state, ballot, value, true) else {
+        drop(accepted);
+        return Err(NoMemory);
+    };
+    drop(accepted);
     Ok(fits)
 }
 
@@ -88,8 +92,14 @@ fn asking(state: &ReplicaState, own: Decision, top: Ballot) -> Result<Coordinato
 {
     states_are_sound();
     let me = state.me();
-    let spec = state.spec()?;
-    let accepted = state.accepted()?;
+    let Ok(accepted) = state.accepted() else {
+        drop(own);
+        return Err(NoMemory);
+    };
+    let Ok(spec) = state.spec() else {
+        drop((own, accepted));
+        return Err(NoMemory);
+    };
     let coordinator = Coordinator::asking(state.alloc(), own, top, me, &spec, accepted)?;
     Ok(coordinator)
 }

@@ -24,57 +24,27 @@ pub fn on_control(state: &mut ReplicaState, k: u32, control: &Control) -> Result
 {
     states_are_sound();
     match control {
-        Control::Suspend { epoch, after } => {
-            on_suspend(state, k, *epoch, *after)?;
-            Ok(())
-        }
-        Control::SuspendOk { .. } => {
-            on_suspend_ok(state, k, control)?;
-            Ok(())
-        }
-        Control::P1a { instance, ballot } => {
-            on_p1a(state, k, *instance, *ballot)?;
-            Ok(())
-        }
+        Control::Suspend { epoch, after } => on_suspend(state, k, *epoch, *after),
+        Control::SuspendOk { .. } => on_suspend_ok(state, k, control),
+        Control::P1a { instance, ballot } => on_p1a(state, k, *instance, *ballot),
         Control::P1b {
             instance,
             ballot,
             accepted,
-        } => {
-            on_p1b(state, k, *instance, *ballot, accepted)?;
-            Ok(())
-        }
+        } => on_p1b(state, k, *instance, *ballot, accepted),
         Control::P1no {
             instance,
             ballot,
             promised,
-        } => {
-            on_p1no(state, k, *instance, *ballot, *promised)?;
-            Ok(())
-        }
+        } => on_p1no(state, k, *instance, *ballot, *promised),
         Control::P2a {
             instance,
             ballot,
             decision,
-        } => {
-            on_p2a(state, k, *instance, *ballot, decision)?;
-            Ok(())
-        }
-        Control::P2b { instance, ballot } => {
-            on_p2b(state, k, *instance, *ballot)?;
-            Ok(())
-        }
-        Control::Decide { decision } => {
-            on_decide(state, k, decision)?;
-            Ok(())
-        }
-        Control::Retrieve { known, from } => {
-            on_retrieve(state, k, *known, *from)?;
-            Ok(())
-        }
-        Control::Page { .. } => {
-            on_page(state, k, control)?;
-            Ok(())
-        }
+        } => on_p2a(state, k, *instance, *ballot, decision),
+        Control::P2b { instance, ballot } => on_p2b(state, k, *instance, *ballot),
+        Control::Decide { decision } => on_decide(state, k, decision),
+        Control::Retrieve { known, from } => on_retrieve(state, k, *known, *from),
+        Control::Page { .. } => on_page(state, k, control),
     }
 }

@@ -71,10 +71,15 @@ fn adopt_tail(state: &mut ReplicaState) -> Result<(), NoMemory>
     };
     let place = state.executed_len();
     if !is_left(decision.base_len, place, state.start()) {
+        drop(decision);
         return Ok(());
     }
     let rest = behind(decision.tail.as_slice(), place - decision.base_len);
-    adopt(state, place, rest)?;
+    let Ok(_) = adopt(state, place, rest) else {
+        drop(decision);
+        return Err(NoMemory);
+    };
+    drop(decision);
     Ok(())
 }
 

@@ -60,7 +60,11 @@ pub fn on_page(state: &mut ReplicaState, k: u32, page: &Control) -> Result<(), N
     let Fit::Adopt(entries) = found else {
         return Ok(());
     };
-    take_entries(state, k, &entries)?;
+    let Ok(()) = take_entries(state, k, &entries) else {
+        drop(entries);
+        return Err(NoMemory);
+    };
+    drop(entries);
     Ok(())
 }
 

@@ -36,15 +36,12 @@ pub fn on_p1a(
         if !fits {
             return Ok(());
         }
-        send_promise(state, k, instance, ballot)?;
-        return Ok(());
+        return send_promise(state, k, instance, ballot);
     }
     if is_same_ballot(top, ballot) {
-        send_promise(state, k, instance, ballot)?;
-        return Ok(());
+        return send_promise(state, k, instance, ballot);
     }
-    refuse(state, k, instance, ballot, top)?;
-    Ok(())
+    refuse(state, k, instance, ballot, top)
 }
 
 /// Handles a ballot of replica `k` that proposes a decision. `NoMemory` if memory runs out.
@@ -67,26 +64,22 @@ pub fn on_p2a(
     }
     let top = state.promised();
     if ballot_precedes(ballot, top) {
-        refuse(state, k, instance, ballot, top)?;
-        return Ok(());
+        return refuse(state, k, instance, ballot, top);
     }
     let has_accepted = state.has_accepted(ballot);
     if has_accepted {
-        vote(state, k, instance, ballot)?;
-        return Ok(());
+        return vote(state, k, instance, ballot);
     }
     let done = state.executed_len();
     let base_len = decision.base_len;
     if done < base_len {
-        state.send_retrieve(k)?;
-        return Ok(());
+        return state.send_retrieve(k);
     }
     let fits = accept(state, instance, ballot, decision)?;
     if !fits {
         return Ok(());
     }
-    vote(state, k, instance, ballot)?;
-    Ok(())
+    vote(state, k, instance, ballot)
 }
 
 /// Records the promise of a ballot. `false` if the record does not fit, `NoMemory` if memory runs out; with `false` the

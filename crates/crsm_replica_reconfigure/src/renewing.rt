@@ -52,8 +52,12 @@ pub fn renew_over(state: &mut ReplicaState) -> Result<bool, NoMemory>
     let Some((own, seen)) = found else {
         return Ok(false);
     };
-    let fits = may_begin(state, &own, seen)?;
+    let Ok(fits) = may_begin(state, &own, seen) else {
+        drop(own);
+        return Err(NoMemory);
+    };
     if !fits {
+        drop(own);
         return Ok(false);
     }
     begin_proposing(state, own, seen)?;

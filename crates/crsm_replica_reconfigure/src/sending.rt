@@ -1,13 +1,13 @@
 //! Messages of the ballot in progress to the replicas that have not answered.
 
-ghost use Rattle.std.specs.Prelude.{◌≡◌, ◌<◌, ◌^◌, IfOk};
+ghost use Rattle.std.specs.Prelude.{◌≡◌, ◌<◌, ◌^◌, All, IfOk};
 ghost use Rattle.crsm_base.specs.Spelling.{FitsBallot, FitsOption};
 ghost use Rattle.crsm_spec.specs.Replica.{Coordinator as CoordinatorOnPaper};
 ghost use Rattle.crsm_spec.specs.Coordinate.{send_ask, send_proposal};
 ghost use Rattle.crsm_spec.specs.Step.{ask_all};
-ghost use Rattle.crsm_replica.specs.Replica.{ReplicaStands, Makes};
+ghost use Rattle.crsm_replica.specs.Replica.{ReplicaStands, WhereStands, Makes};
 ghost use Rattle.crsm_replica_coordinator.specs.Coordinator.{WhereStands as WhereCoordinates};
-ghost use Rattle.crsm_replica_reconfigure.specs.Stages.{WherePreparing, round_of};
+ghost use Rattle.crsm_replica_reconfigure.specs.Stages.{WherePreparing, round_of, not_counted};
 
 use crate::telling::{tell_all, tell_each};
 use crsm_base::{Ballot, Control, Decision, NoMemory};
@@ -22,10 +22,9 @@ pub fn send_ask(state: &mut ReplicaState) -> Result<(), NoMemory>
     let Some((instance, ballot)) = found else {
         return Ok(());
     };
-    let others = state.others()?;
-    let missing = state.coordinator().missing(state.alloc(), &others)?;
+    let missing = missing(state)?;
     let control = Control::P1a { instance, ballot };
-    tell_each(state, &missing, control)?;
+    tell_each(state, missing, control)?;
     Ok(())
 }
 
@@ -42,15 +41,27 @@ pub fn send_proposal(state: &mut ReplicaState) -> Result<(), NoMemory>
     let Some((ballot, decision)) = found else {
         return Ok(());
     };
-    let others = state.others()?;
-    let missing = state.coordinator().missing(state.alloc(), &others)?;
+    let Ok(missing) = missing(state) else {
+        drop(decision);
+        return Err(NoMemory);
+    };
     let control = Control::P2a {
         instance,
         ballot,
         decision,
     };
-    tell_each(state, &missing, control)?;
+    tell_each(state, missing, control)?;
     Ok(())
+}
+
+/// Returns the other counted replicas whose promise or vote is not counted. `NoMemory` if memory runs out.
+fn missing(state: &ReplicaState) -> Result<Vec<u32>, NoMemory>
+    ensures value { WhereStands state.now (λ x. IfOk result (λ ks. ks.items ≡ not_counted x.replica)) }
+    ensures below { IfOk result (λ ks. All (λ k. k < 15) ks.items) }
+{
+    let others = state.others()?;
+    let missing = state.coordinator().missing(state.alloc(), &others)?;
+    Ok(missing)
 }
 
 /// Asks all other counted replicas for decisions and executed entries, unless this replica is active. `NoMemory` if

@@ -29,19 +29,16 @@ pub fn on_suspend(
     states_are_sound();
     let known = state.known();
     if epoch < known {
-        state.send_decision(k)?;
-        return Ok(());
+        return state.send_decision(k);
     }
     if known < epoch {
-        state.send_retrieve(k)?;
-        return Ok(());
+        return state.send_retrieve(k);
     }
     let fits = suspend_once(state)?;
     if !fits {
         return Ok(());
     }
-    send_frozen(state, k, after)?;
-    Ok(())
+    send_frozen(state, k, after)
 }
 
 /// Suspends the known epoch, unless it is suspended. `false` if the record does not fit, `NoMemory` if memory runs out;

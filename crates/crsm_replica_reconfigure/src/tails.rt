@@ -37,9 +37,11 @@ pub fn rest_goes_on(state: &ReplicaState, entries: &Entries) -> Result<bool, NoM
     };
     let entries = entries.as_slice();
     let Some(entry) = first_left(&decision, state.executed_len(), entries.len()) else {
+        drop(decision);
         return Ok(true);
     };
     let is_behind = ends_before(entries, entry);
+    drop(decision);
     Ok(is_behind)
 }
 
@@ -71,6 +73,7 @@ fn stands_behind(ledger: &Ledger, entry: &Entry) -> Result<bool, NoMemory>
         return Ok(true);
     };
     let is_behind = entry_precedes(&last, entry);
+    drop(last);
     Ok(is_behind)
 }
 

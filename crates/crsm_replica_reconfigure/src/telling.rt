@@ -22,14 +22,14 @@ pub fn tell(state: &mut ReplicaState, k: u32, control: Control) -> Result<(), No
 /// Sends a control message to each of these replicas. `NoMemory` if memory runs out.
 pub fn tell_each(
     state: &mut ReplicaState,
-    replicas: &[u32],
+    replicas: Vec<u32>,
     control: Control,
 ) -> Result<(), NoMemory>
-    requires to { All (λ k. k < 15) replicas.now }
+    requires to { All (λ k. k < 15) replicas.items }
     requires spelt { FitsControl control }
-    ensures { Makes (send_to_each replicas.now control) state.old result state.new }
+    ensures { Makes (send_to_each replicas.items control) state.old result state.new }
 {
-    let sent = state.send_to_each(replicas, &control);
+    let sent = state.send_to_each(&replicas, &control);
     drop(control);
     sent
 }

@@ -39,13 +39,7 @@ fn renew(state: &mut ReplicaState) -> Result<bool, NoMemory>
             send_ask(state)?;
             Ok(true)
         }
-        Stage::Proposing => {
-            let fits = renew_proposal(state)?;
-            Ok(fits)
-        }
-        Stage::Preempted => {
-            let fits = renew_over(state)?;
-            Ok(fits)
-        }
+        Stage::Proposing => renew_proposal(state),
+        Stage::Preempted => renew_over(state),
     }
 }

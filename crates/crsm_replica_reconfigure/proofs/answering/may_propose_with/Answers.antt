@@ -28,5 +28,5 @@ returns c = λ x b own answers s e h.
     let spelt = subst (λ o. FitsOption FitsVote o) c.in-Some.is c.in_ok-found.ensures.fits in
     let ballot = same_round c.in_ok-found.found c.in-Some.ballot b c.in-Some.value v c.in-Some.is found in
     let decided = same_value c.in_ok-found.found c.in-Some.ballot b c.in-Some.value v c.in-Some.is found in
-    c.in_ok-fits.ensures x own [] s spelt.1 (c.in_ok-is_alone.ensures x s)
+    c.in-Ok-fits_own.ensures x own [] s spelt.1 (c.in-Ok.ensures x s)
     ∙ ap (λ q. (accept_own q own c.in-Some.value [] x).fitting) ballot ∙ ap (λ d. (accept_own b own d [] x).fitting) decided ∙ last_fitting b own answers a x h

@@ -28,5 +28,5 @@ returns c = λ x y s p a.
     let value = c.value_alone-value.ensures x.replica.me ∙ ap (λ h. value_of c.args.own.now (record { replica = x.replica.me; accepted = h } ∷ [])) (c.in_ok-accepted.ensures.value x s) in
     let ballot : c.above-ballot.result ≡ after c.greater-top.result x.replica.me = c.above-ballot.ensures.value ∙ ap (after c.greater-top.result) (c.me.ensures.value x s) in
     let spelt = value_spelt x.replica.me c.args.own.now (accepted x.replica.log) p.0.spelt (accepted_fits x.replica.log sound.spelt) in
-    c.in_ok-fits.ensures x c.args.own.now [] s (subst (λ d. FitsDecision d) (sym value) spelt) (sym alone)
+    c.in-Ok.ensures x c.args.own.now [] s (subst (λ d. FitsDecision d) (sym value) spelt) (sym alone)
     ∙ fits_alone c.args.own.now c.args.seen c.greater-top.result x y sound p a top c.above-ballot.result c.value_alone-value.result.now (round_left c.greater-top.result c.if-top.false) alone ballot value

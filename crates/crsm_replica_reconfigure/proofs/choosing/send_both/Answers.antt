@@ -1,4 +1,4 @@
-use Rattle.std.proofs.Common.{◌≡◌, ◌∙◌, sym, subst}
+use Rattle.std.proofs.Common.{◌≡◌, sym, subst}
 use Rattle.std.specs.Prelude.{◌&&◌}
 use Rattle.crsm_base.specs.Spelling.{FitsDecision}
 use Rattle.crsm_spec.specs.Types.{Control}
@@ -16,4 +16,4 @@ returns c = λ x s.
     let copy : c.in_ok-decision.decision ≡ c.args.decision.now = c.in_ok-decision.ensures in
     let sent = c.in_ok-tell_each.ensures x s in
     subst (λ d. ReplicaStands c.tell_each.new.state (send_to_each (filter (λ k. (has c.args.old.now k || has c.args.new.now k) && not (k == c.args.me)) (numbers_below 15)) (Control.Decide d) x)) copy
-    (subst (λ ks. ReplicaStands c.tell_each.new.state (send_to_each ks (Control.Decide c.in_ok-decision.decision) x)) (c.deref.ensures.value ∙ c.in_ok-replicas.ensures.value) sent)
+    (subst (λ ks. ReplicaStands c.tell_each.new.state (send_to_each ks (Control.Decide c.in_ok-decision.decision) x)) c.in_ok-replicas.ensures.value sent)

@@ -28,5 +28,5 @@ returns c = λ x s f.
     let rest : c.behind-rest.result.now ≡ drop (c.executed_len-place.result - c.in-Some.decision.base_len) c.in-Some.decision.tail = c.behind-rest.ensures ∙ ap (λ es. drop (c.executed_len-place.result - c.in-Some.decision.base_len) es) c.as_slice.ensures in
     let is = some_tail x c.in-Some.decision c.executed_len-place.result c.start.result c.behind-rest.result.now known (c.executed_len-place.ensures x s) (c.start.ensures x s)
     (sym c.is_left.ensures ∙ c.if-not-is_left.false) rest in
-    let k = c.in_ok-adopt.ensures x s in
+    let k = c.in-Ok.ensures x s in
     subst (λ y. ReplicaStands c.adopt.new.state y) is (was_whole c.adopt.new.state x _ (ap (λ y. y.fitting) is ∙ f) k.1)

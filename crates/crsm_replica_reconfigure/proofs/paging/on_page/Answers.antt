@@ -12,7 +12,7 @@ returns-in_default c = λ x s.
 pub returns : goal.returns
 returns c = λ x s.
     let t = page_taken c.args.k c.args.page.now x c.in-Adopt.entries c.requires.is c.requires.spelt (sym c.in-Adopt.is ∙ c.in_ok-found.ensures.value x.replica.me x.replica.n x.replica.log (c.ledger.ensures.stands x s)) in
-    instead c.take_entries.new.state x _ _ (sym t.rule) (c.in_ok-take_entries.ensures x s t.can)
+    instead c.take_entries.new.state x _ _ (sym t.rule) (c.in-Ok.ensures x s t.can)
 
 pub take_entries-requires-clause-spelt : goal.take_entries-requires-clause-spelt
 take_entries-requires-clause-spelt c = subst FitsAdopted c.in-Adopt.is (c.in_ok-found.ensures.fits c.requires.spelt)

@@ -1,4 +1,5 @@
 use Rattle.std.proofs.Common.{◌≡◌, ◌∙◌, sym, subst, ap, true, false}
+use Rattle.std.proofs.lemmas.Result.{IfOk-weaker}
 use Rattle.crsm_spec.specs.Types.{Rec}
 use Rattle.crsm_spec.specs.Draft.{Draft, keep}
 use Rattle.crsm_spec.specs.Controls.{on_p1a}
@@ -24,7 +25,8 @@ returns-then-not-fits c = λ x s.
     is_ignored c.promise.new.state x _ (ap (λ y. y.fitting) is ∙ promise_fitting c.args.k c.args.instance c.args.ballot _ ∙ u) (was_ignored c.promise.new.state x _ u k.1)
 
 pub returns-then-ballot_precedes : goal.returns-then-ballot_precedes
-returns-then-ballot_precedes c = λ x s.
+returns-then-ballot_precedes c =
+    IfOk-weaker c.send_promise.result _ _ (λ _ made x s.
     let n = (c.in_ok-is_next.ensures x s).here c.if-not-is_next.false in
     let sound = c.states_are_sound.ensures c.args.state.now x s in
     let t = c.promised-top.ensures.value x n.1 in
@@ -33,22 +35,24 @@ returns-then-ballot_precedes c = λ x s.
     let z : Draft = keep (Rec.Promise c.args.instance c.args.ballot) x in
     let u : z.fitting ≡ true = sym k.0 ∙ c.if-not-fits.false in
     is_whole c.send_promise.new.state x _ (ap (λ y. y.fitting) is ∙ promise_fitting c.args.k c.args.instance c.args.ballot z ∙ u)
-    (subst (λ y. ReplicaStands c.send_promise.new.state y) (sym is) (c.in_ok-send_promise.ensures z (was_whole c.promise.new.state x z u k.1)))
+    (subst (λ y. ReplicaStands c.send_promise.new.state y) (sym is) (made z (was_whole c.promise.new.state x z u k.1)))) c.send_promise.ensures
 
 pub returns-then-is_same_ballot : goal.returns-then-is_same_ballot
-returns-then-is_same_ballot c = λ x s.
+returns-then-is_same_ballot c =
+    IfOk-weaker c.send_promise-then-is_same_ballot.result _ _ (λ _ made x s.
     let n = (c.in_ok-is_next.ensures x s).here c.if-not-is_next.false in
     let sound = c.states_are_sound.ensures c.args.state.now x s in
     let t = c.promised-top.ensures.value x n.1 in
     let is = p1a_repeats c.args.k c.args.instance c.args.ballot c.promised-top.result x n.0 t (sym c.ballot_precedes.ensures ∙ c.if-ballot_precedes.false) (sym c.is_same_ballot.ensures ∙ c.if-is_same_ballot.true) in
     is_whole c.send_promise-then-is_same_ballot.new.state x _ (ap (λ y. y.fitting) is ∙ promise_fitting c.args.k c.args.instance c.args.ballot x ∙ sound.fitting)
-    (subst (λ y. ReplicaStands c.send_promise-then-is_same_ballot.new.state y) (sym is) (c.in_ok-send_promise-2.ensures x n.1))
+    (subst (λ y. ReplicaStands c.send_promise-then-is_same_ballot.new.state y) (sym is) (made x n.1))) c.send_promise-then-is_same_ballot.ensures
 
 pub returns : goal.returns
-returns c = λ x s.
+returns c =
+    IfOk-weaker c.refuse.result _ _ (λ _ made x s.
     let n = (c.in_ok-is_next.ensures x s).here c.if-not-is_next.false in
     let sound = c.states_are_sound.ensures c.args.state.now x s in
     let t = c.promised-top.ensures.value x n.1 in
     let is = p1a_refuses c.args.k c.args.instance c.args.ballot c.promised-top.result x n.0 t (sym c.ballot_precedes.ensures ∙ c.if-ballot_precedes.false) (sym c.is_same_ballot.ensures ∙ c.if-is_same_ballot.false) in
     is_whole c.refuse.new.state x _ (ap (λ y. y.fitting) is ∙ send_fitting _ x c.args.k ∙ sound.fitting)
-    (subst (λ y. ReplicaStands c.refuse.new.state y) (sym is) (c.in_ok-refuse.ensures x n.1))
+    (subst (λ y. ReplicaStands c.refuse.new.state y) (sym is) (made x n.1))) c.refuse.ensures

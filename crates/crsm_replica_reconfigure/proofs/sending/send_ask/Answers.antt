@@ -1,10 +1,11 @@
-use Rattle.std.proofs.Common.{◌≡◌, ◌∙◌, ℕ, ◌<◌, subst}
-use Rattle.std.specs.Prelude.{◌^◌, Some}
+use Rattle.std.proofs.Common.{◌≡◌, ◌∙◌, ℕ, ◌<◌, subst, ap, refl}
+use Rattle.std.specs.Prelude.{◌^◌, Some, filter, not}
 use Rattle.crsm_base.specs.Spelling.{FitsBallot, FitsOption}
 use Rattle.crsm_spec.specs.Types.{Ballot}
 use Rattle.crsm_spec.specs.Log.{decision}
-use Rattle.crsm_spec.specs.Replica.{Coordinator}
-use Rattle.crsm_replica_coordinator.specs.Coordinator.{CoordinatorStands}
+use Rattle.crsm_spec.specs.Lists.{has}
+use Rattle.crsm_spec.specs.Replica.{Coordinator, others}
+use Rattle.crsm_replica_coordinator.specs.Coordinator.{CoordinatorStands, counted_of}
 use Rattle.crsm_replica.specs.Replica.{ReplicaStands}
 use Rattle.crsm_replica_reconfigure.specs.Stages.{round_of}
 use Rattle.crsm_replica_reconfigure.proofs.ProposeLemmas.{ask_as, none_proposed, own_next, rounds_same}
@@ -26,7 +27,6 @@ unfolding round_of
 returns c = λ x b own answers s e.
     let m : Coordinator = Coordinator.Preparing b own answers in
     let stands = subst (λ z. CoordinatorStands c.coordinator.result.now x.replica.me x.replica.n (decision x.replica.log) z) e (c.coordinator.ensures x s) in
-    let again = subst (λ z. CoordinatorStands c.coordinator-2.result.now x.replica.me x.replica.n (decision x.replica.log) z) e (c.coordinator-2.ensures x s) in
     let mine = asking_mine x.replica.me x.replica.n (decision x.replica.log) c.coordinator.result.now b own answers stands in
     let found : c.round_in-found.result ≡ Some (own.epoch, b) = c.round_in-found.ensures.value x.replica.me x.replica.n (decision x.replica.log) m stands in
     let both = rounds_same c.round_in-found.result c.in-Some.instance own.epoch c.in-Some.ballot b c.in-Some.is found in
@@ -35,5 +35,5 @@ returns c = λ x b own answers s e.
     let next = own_is ∙ own_next x x.replica.me x.replica.n own mine.0 in
     let sent = c.in_ok-tell_each.ensures x s in
     subst (λ y. ReplicaStands c.tell_each.new.state y)
-    (ask_as b own answers x c.in-Some.ballot c.in-Some.instance c.deref.result.now c.deref-2.result.now same next (c.deref.ensures.value ∙ c.in_ok-others.ensures.value x s)
-    (c.deref-2.ensures.value ∙ c.in_ok-missing.ensures.value x.replica.me x.replica.n (decision x.replica.log) m again)) sent
+    (ask_as b own answers x c.in-Some.ballot c.in-Some.instance (others x.replica) c.in_ok-missing.missing.items same next refl
+    (c.in_ok-missing.ensures.value x s ∙ ap (λ n. filter (λ k. not (has (counted_of n) k)) (others x.replica)) e)) sent

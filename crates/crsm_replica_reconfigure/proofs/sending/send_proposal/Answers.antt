@@ -1,12 +1,13 @@
 use Rattle.std.proofs.Common.{◌≡◌, ◌∙◌, ℕ, ◌<◌, refl, sym, subst, ap}
-use Rattle.std.specs.Prelude.{◌^◌, None}
+use Rattle.std.specs.Prelude.{◌^◌, None, filter, not}
 use Rattle.crsm_base.specs.Messages.{FitsVote}
 use Rattle.crsm_base.specs.Spelling.{FitsBallot, FitsOption}
 use Rattle.crsm_spec.specs.Types.{Ballot}
 use Rattle.crsm_spec.specs.Log.{decision}
-use Rattle.crsm_spec.specs.Replica.{Coordinator}
+use Rattle.crsm_spec.specs.Lists.{has}
+use Rattle.crsm_spec.specs.Replica.{Coordinator, others}
 use Rattle.crsm_spec.specs.Coordinate.{send_proposal}
-use Rattle.crsm_replica_coordinator.specs.Coordinator.{CoordinatorStands, proposal_of}
+use Rattle.crsm_replica_coordinator.specs.Coordinator.{CoordinatorStands, proposal_of, counted_of}
 use Rattle.crsm_replica_coordinator.proofs.Coordinators.{proposing_mine}
 use Rattle.crsm_replica.specs.Replica.{ReplicaStands}
 use Rattle.crsm_replica_reconfigure.proofs.ProposeLemmas.{proposal_as, own_next, none_told, no_round, round_is, is_proposal}
@@ -34,13 +35,12 @@ returns c = λ x s.
     let p = is_proposal x.replica.coordinator (c.in-Some-found.ballot, c.in-Some-found.decision) found in
     let m : Coordinator = Coordinator.Proposing c.in-Some-found.ballot p.own c.in-Some-found.decision p.acceptors in
     let stands = subst (λ z. CoordinatorStands c.coordinator.result.now x.replica.me x.replica.n (decision x.replica.log) z) p.is (c.coordinator.ensures x s) in
-    let again = subst (λ z. CoordinatorStands c.coordinator-3.result.now x.replica.me x.replica.n (decision x.replica.log) z) p.is (c.coordinator-3.ensures x s) in
     let mine = proposing_mine x.replica.me x.replica.n (decision x.replica.log) c.coordinator.result.now c.in-Some-found.ballot p.own c.in-Some-found.decision p.acceptors stands in
     let own_is : c.in-Some.instance ≡ p.own.epoch = round_is c.in-Some-found.ballot p.own c.in-Some-found.decision p.acceptors c.in-Some.instance _
     (sym (c.round_in-round.ensures.value x.replica.me x.replica.n (decision x.replica.log) m stands) ∙ c.in-Some.is) in
     let next = own_is ∙ own_next x x.replica.me x.replica.n p.own mine.0 in
     let sent = c.in_ok-tell_each.ensures x s in
     subst (λ y. ReplicaStands c.tell_each.new.state y)
-    (proposal_as c.in-Some-found.ballot p.own c.in-Some-found.decision p.acceptors x c.in-Some-found.ballot c.in-Some-found.decision c.in-Some.instance c.deref.result.now c.deref-2.result.now refl refl next
-    (c.deref.ensures.value ∙ c.in_ok-others.ensures.value x s) (c.deref-2.ensures.value ∙ c.in_ok-missing.ensures.value x.replica.me x.replica.n (decision x.replica.log) m again)
+    (proposal_as c.in-Some-found.ballot p.own c.in-Some-found.decision p.acceptors x c.in-Some-found.ballot c.in-Some-found.decision c.in-Some.instance (others x.replica) c.in-Ok.missing.items refl refl next refl
+    (c.in-Ok.ensures.value x s ∙ ap (λ n. filter (λ k. not (has (counted_of n) k)) (others x.replica)) p.is)
     ∙ ap (λ n. send_proposal n x) (sym p.is)) sent

@@ -1,7 +1,7 @@
-use Rattle.std.proofs.Common.{◌≡◌, ◌∙◌, ap, sym, subst, true}
+use Rattle.std.proofs.Common.{◌≡◌, ◌∙◌, ap, sym, true}
+use Rattle.std.proofs.lemmas.Result.{IfOk-weaker}
 use Rattle.crsm_spec.specs.Log.{decision}
 use Rattle.crsm_spec.specs.Replica.{Coordinator}
-use Rattle.crsm_spec.specs.Draft.{Draft}
 use Rattle.crsm_spec.specs.Coordinate.{send_ask}
 use Rattle.crsm_spec.specs.Step.{renew, send_collect}
 use Rattle.crsm_replica_coordinator.specs.declared.coordinator.Stage.{Stage}
@@ -35,14 +35,16 @@ returns-in_ok-send_ask-in-Preparing c = λ x s.
     let fitting : (send_ask m x).fitting ≡ true = question_fitting found.0 found.1 found.2 x ∙ (c.states_are_sound.ensures c.args.state.now x s).fitting in
     all_fits c.send_ask.new.state x (send_ask m x) (renew x.replica.coordinator x) is fitting (c.in_ok-send_ask-in-Preparing.ensures x found.0 found.1 found.2 s found.3)
 
-pub returns-in_ok-fits-in-Proposing : goal.returns-in_ok-fits-in-Proposing
-returns-in_ok-fits-in-Proposing c = λ x s.
+pub returns-in-Proposing : goal.returns-in-Proposing
+returns-in-Proposing c =
+    IfOk-weaker c.renew_proposal.result _ _ (λ fit made x s.
     let stage : Stage.Proposing ≡ stage_of x.replica.coordinator = sym c.in-Proposing.is ∙ c.stage.ensures x.replica.me x.replica.n (decision x.replica.log) x.replica.coordinator (c.coordinator.ensures x s) in
     let found = is_proposing x.replica.coordinator stage in
-    renewed_as c.renew_proposal.new.state x _ x.replica.coordinator _ found.is (c.in_ok-fits-in-Proposing.ensures x found.ballot found.own found.value found.acceptors s found.is)
+    renewed_as c.renew_proposal.new.state x _ x.replica.coordinator _ found.is (made x found.ballot found.own found.value found.acceptors s found.is)) c.renew_proposal.ensures
 
-pub returns-in_ok-fits-in-Preempted : goal.returns-in_ok-fits-in-Preempted
-returns-in_ok-fits-in-Preempted c = λ x s.
+pub returns-in-Preempted : goal.returns-in-Preempted
+returns-in-Preempted c =
+    IfOk-weaker c.renew_over.result _ _ (λ fit made x s.
     let stage : Stage.Preempted ≡ stage_of x.replica.coordinator = sym c.in-Preempted.is ∙ c.stage.ensures x.replica.me x.replica.n (decision x.replica.log) x.replica.coordinator (c.coordinator.ensures x s) in
     let found = is_over x.replica.coordinator stage in
-    renewed_as c.renew_over.new.state x _ x.replica.coordinator _ found.2 (c.in_ok-fits-in-Preempted.ensures x found.0 found.1 s found.2)
+    renewed_as c.renew_over.new.state x _ x.replica.coordinator _ found.2 (made x found.0 found.1 s found.2)) c.renew_over.ensures
