@@ -43,18 +43,9 @@ fn on_input(state: &mut ReplicaState, input: &Input, reading: u64) -> Result<(),
     ensures { Follows (rules.on_input (input_of input.now) reading) state.old result state.new }
 {
     match input {
-        Input::Datagram { from, datagram } => {
-            on_datagram(state, *from, datagram, reading)?;
-            Ok(())
-        }
-        Input::Tick => {
-            on_tick(state)?;
-            Ok(())
-        }
-        Input::Suspect { members } => {
-            on_suspect(state, members)?;
-            Ok(())
-        }
+        Input::Datagram { from, datagram } => on_datagram(state, *from, datagram, reading),
+        Input::Tick => on_tick(state),
+        Input::Suspect { members } => on_suspect(state, members),
     }
 }
 
@@ -63,10 +54,7 @@ fn idle_at(state: &mut ReplicaState, input: &Input, reading: u64) -> Result<(), 
     ensures { Makes (rules.idle_at (input_of input.now) reading) state.old result state.new }
 {
     match input {
-        Input::Tick => {
-            idle(state, reading)?;
-            Ok(())
-        }
+        Input::Tick => idle(state, reading),
         Input::Datagram { .. } => Ok(()),
         Input::Suspect { .. } => Ok(()),
     }
@@ -108,8 +96,7 @@ fn on_datagram(
             if is_astray(state, *from, *to) {
                 return Ok(());
             }
-            on_frame(state, *from, *epoch, *seq, payload)?;
-            Ok(())
+            on_frame(state, *from, *epoch, *seq, payload)
         }
         Datagram::Ack {
             from,
@@ -120,8 +107,7 @@ fn on_datagram(
             if is_astray(state, *from, *to) {
                 return Ok(());
             }
-            on_ack(state, *from, *epoch, *next)?;
-            Ok(())
+            on_ack(state, *from, *epoch, *next)
         }
         Datagram::Part {
             from,
@@ -141,17 +127,10 @@ fn on_datagram(
                 index: *index,
                 count: *count,
             };
-            on_part(state, *from, heading, bytes.as_slice())?;
-            Ok(())
+            on_part(state, *from, heading, bytes.as_slice())
         }
-        Datagram::Request { command } => {
-            on_request(state, address, command, reading)?;
-            Ok(())
-        }
+        Datagram::Request { command } => on_request(state, address, command, reading),
         Datagram::Reply { .. } => Ok(()),
-        Datagram::Operate { members } => {
-            on_suspect(state, members)?;
-            Ok(())
-        }
+        Datagram::Operate { members } => on_suspect(state, members),
     }
 }
