@@ -1,5 +1,5 @@
 -- A boot that becomes durable on a mounted log, or does not.
-use Rattle.std.proofs.Common.{◌≡◌, IsTrue, ℕ, ◌+◌, ◌<◌, List, [], ◌∷◌, ◌++◌, length, refl, sym, ◌∙◌, ap, subst, inl, inr, arith}
+use Rattle.std.proofs.Common.{◌≡◌, IsTrue, ℕ, ◌<◌, List, [], ◌∷◌, ◌++◌, length, refl, sym, ◌∙◌, ap, subst, inl, inr, arith}
 use Rattle.std.specs.Prelude.{◌⊎◌, Some}
 use Rattle.crsm_base.specs.declared.rec.Rec.{Rec}
 use Rattle.crsm_base.specs.Records.{SpeltBody, body_bytes}
@@ -12,12 +12,12 @@ use Rattle.crsm_core.specs.Core.{CoreStands}
 use Rattle.crsm_port_faults.specs.Plan.{Plan}
 use Rattle.crsm_disk.specs.Meaning.{LeavesOnly, Meaning}
 use Rattle.crsm_disk.proofs.Moments.{joined, unchanged, weaker}
-use Rattle.crsm_port_image.specs.Calls.{Call, History}
+use Rattle.crsm_port_image.specs.Calls.{Call}
 use Rattle.crsm_ledger.specs.Recovered.{AreKept, IsBadAt}
 use Rattle.crsm_log.specs.declared.errors.MountError.{MountError}
 use Rattle.crsm_log.specs.declared.errors.MountError.TheVariants as mount
 use Rattle.crsm_log.specs.Format.{Reading, bodies_in, bodies_of, found, gate_in, reading, reading_in}
-use Rattle.crsm_log.specs.Log.{IsAsBefore, MeetsIn, Mounts, Refuses, Serves, Used, mount_calls, mount_count, put_calls, recorded}
+use Rattle.crsm_log.specs.Log.{IsAsBefore, MeetsIn, Mounts, Refuses, Serves, Used, mount_count, put_calls, recorded}
 use Rattle.crsm_replica_epoch.specs.EpochState.{EachFits}
 use Rattle.crsm_replica_io.specs.Outgoing.{packets_for}
 use Rattle.crsm_shell.specs.declared.begin.Begun.{Begun}
@@ -29,7 +29,7 @@ use Rattle.crsm_shell.specs.declared.errors.TurnError.TheVariants as errors
 use Rattle.crsm_shell.specs.Beginning.{BeginsOn, IsRefusal}
 use Rattle.crsm_shell.specs.Booting.{AddsBoot, Boots, BootsOn, FailsToKeep, IsBooted, IsBootedOrBefore, IsLeftByBoot, IsOfLog, ReadsAsBefore, RefusesBoot, boot_body, refusal_count}
 use Rattle.crsm_shell.specs.Errors.{keep_failure, mount_failure}
-use Rattle.crsm_shell.specs.Flushing.{Adds, IsFull, IsLeft, IsPast, KeptWell, NotKept, keep_calls, keep_count}
+use Rattle.crsm_shell.specs.Flushing.{Adds, IsFull, IsLeft, IsPast, KeptWell, keep_calls, keep_count}
 use Rattle.crsm_shell.specs.Shell.{HasLog, ShellStands, records_of, sends_of}
 use Rattle.crsm_shell.proofs.Boots.{boot_grown, boot_some, goes_behind, meets_behind, rose_behind, used_more}
 use Rattle.crsm_shell.proofs.Cores.{core_fits}

@@ -1,17 +1,17 @@
 -- The output of a boot, and the effects of its mount and put on the disk.
-use Rattle.std.proofs.Common.{◌≡◌, IsTrue, ℕ, zero, suc, ◌+◌, ◌-◌, ◌<◌, ◌≤◌, min, List, [], ◌∷◌, ◌++◌, length, refl, sym, ◌∙◌, ap, subst, arith, Bool, true, false, map, append-nil}
+use Rattle.std.proofs.Common.{◌≡◌, ℕ, ◌+◌, ◌-◌, ◌<◌, ◌≤◌, List, [], ◌∷◌, ◌++◌, length, refl, sym, ◌∙◌, ap, subst, arith, Bool, true, false, map, append-nil}
 use Rattle.std.specs.Prelude.{Option, Some, None, nat_lt}
 use Rattle.std.proofs.lemmas.Option.{none-some, same_Some}
 use Rattle.crsm_base.specs.Records.{body_bytes, rec_bytes}
 use Rattle.crsm_spec.specs.Choice.{when◌then◌otherwise◌}
-use Rattle.crsm_spec.specs.Types.{Line, Rec}
+use Rattle.crsm_spec.specs.Types.{Line}
 use Rattle.crsm_spec.specs.Log.{Log}
 use Rattle.crsm_replica_output.specs.declared.batch.Batch.{Batch}
 use Rattle.crsm_replica_output.specs.Made.{IsBatchOf, line_of, made_of}
 use Rattle.crsm_spec.specs.Draft.{Draft, Reply, begun, keep}
 use Rattle.crsm_spec.specs.Replica.{fresh}
 use Rattle.crsm_spec.specs.Step.{boot, boot_again, first_boot, founding_boot}
-use Rattle.crsm_port_faults.specs.Counts.{Rose, raised}
+use Rattle.crsm_port_faults.specs.Counts.{Rose}
 use Rattle.crsm_port_faults.specs.Plan.{Plan}
 use Rattle.crsm_log.specs.Log.{Goes, MeetsIn, Serves, Used, less}
 use Rattle.crsm_disk.specs.Meaning.{Meaning}

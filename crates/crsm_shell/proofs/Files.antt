@@ -1,15 +1,14 @@
 -- Files, their bodies, and the logs of these.
-use Rattle.std.proofs.Common.{◌≡◌, IsTrue, ℕ, zero, suc, ◌+◌, ◌<◌, ◌≤◌, List, [], ◌∷◌, ◌++◌, length, take, refl, sym, ◌∙◌, ap, subst, inl, inr, arith, length-append, Bool, true, false}
-use Rattle.std.specs.Prelude.{◌⊎◌, Option, Some, None, IfSome, if◌then◌else◌, nat_le, ◌==◌, ◌||◌, ◌&&◌}
+use Rattle.std.proofs.Common.{◌≡◌, IsTrue, ℕ, zero, suc, ◌<◌, ◌≤◌, List, [], ◌∷◌, ◌++◌, length, take, refl, sym, ◌∙◌, ap, subst, inl, inr, arith, length-append, Bool, true, false}
+use Rattle.std.specs.Prelude.{Option, Some, None, IfSome, if◌then◌else◌}
 use Rattle.std.specs.List.{AllByRecursion, flat_map}
-use Rattle.std.proofs.lemmas.Option.{none-some, same_Some}
-use Rattle.std.proofs.lemmas.Bool.Decides.{nat_tests}
+use Rattle.std.proofs.lemmas.Option.{none-some}
 use Rattle.crsm_base.specs.declared.rec.Rec.{Rec}
 use Rattle.crsm_base.specs.declared.rec.Rec.TheVariants as rec
 use Rattle.crsm_base.specs.Records.{FitsRec, SpeltBody, body_bytes, rec_bytes}
 use Rattle.crsm_spec.specs.Log.{Log}
 use Rattle.crsm_spec.specs.Moments.{is_kept}
-use Rattle.crsm_port_image.specs.Calls.{Call, History, contents, noted}
+use Rattle.crsm_port_image.specs.Calls.{Call, History, contents}
 use Rattle.crsm_port_image.specs.Image.{image_of}
 use Rattle.crsm_disk.specs.Meaning.{Meaning}
 use Rattle.crsm_ledger.specs.Recovered.{AreKept, FitInTurn, with_records}

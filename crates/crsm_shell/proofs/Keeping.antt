@@ -1,17 +1,16 @@
 -- The effect of putting a body, or none, on the disk.
-use Rattle.std.proofs.Common.{◌≡◌, IsTrue, ℕ, ◌+◌, ◌<◌, ◌≤◌, List, [], ◌∷◌, ◌++◌, length, refl, sym, ◌∙◌, ap, subst, inl, inr, arith}
-use Rattle.std.specs.Prelude.{◌⊎◌, Option, None, Some}
+use Rattle.std.proofs.Common.{◌≡◌, IsTrue, ℕ, ◌<◌, List, [], ◌∷◌, ◌++◌, length, refl, inl, inr, arith}
+use Rattle.std.specs.Prelude.{Some}
 use Rattle.crsm_port_faults.specs.Plan.{Plan}
 use Rattle.crsm_disk.specs.Meaning.{LeavesOnly, Meaning}
 use Rattle.crsm_disk.proofs.Moments.{weaker}
 use Rattle.crsm_log.specs.Format.{bodies_of, found, reading}
-use Rattle.crsm_log.specs.Log.{Goes, IsBeforeOrAfter, IsSettled, Serves, Used, less, put_calls, recorded}
+use Rattle.crsm_log.specs.Log.{Goes, IsBeforeOrAfter, Used, put_calls, recorded}
 use Rattle.crsm_log.specs.declared.errors.PutError.{PutError}
 use Rattle.crsm_log.specs.declared.errors.PutError.TheVariants as put
-use Rattle.crsm_shell.specs.declared.errors.TurnError.{TurnError}
 use Rattle.crsm_shell.specs.declared.errors.TurnError.TheVariants as errors
 use Rattle.crsm_shell.specs.Errors.{put_failure}
-use Rattle.crsm_shell.specs.Flushing.{IsLeft, IsOfPut, IsPast, KeptWell, NotKept}
+use Rattle.crsm_shell.specs.Flushing.{IsLeft, IsOfPut, IsPast, KeptWell}
 
 module _ (gate : ℕ) (old new : Meaning) where
   left_some : (body : List ℕ) → 0 < length body → LeavesOnly old new (IsBeforeOrAfter (bodies_of old.seen) body) → LeavesOnly old new (IsLeft (bodies_of old.seen) body)

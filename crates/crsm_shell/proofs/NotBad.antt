@@ -1,13 +1,13 @@
 -- Bodies of a log are not bad.
-use Rattle.std.proofs.Common.{◌≡◌, ℕ, zero, suc, List, [], ◌∷◌, ◌++◌, take, refl, sym, ◌∙◌, subst, inl, inr, Bool, true, false}
-use Rattle.std.specs.Prelude.{◌⊎◌, Option, Some, slice_get}
+use Rattle.std.proofs.Common.{◌≡◌, ℕ, zero, suc, List, [], ◌∷◌, ◌++◌, take, sym, ◌∙◌, subst, inl, inr, Bool, true, false}
+use Rattle.std.specs.Prelude.{Some, slice_get}
 use Rattle.std.proofs.lemmas.Option.{none-some, same_Some}
 use Rattle.crsm_base.specs.declared.rec.Rec.{Rec}
 use Rattle.crsm_base.specs.Records.{SpeltBody}
 use Rattle.crsm_spec.specs.Fits.{fits}
 use Rattle.crsm_spec.specs.Log.{Log}
 use Rattle.crsm_ledger.specs.Recovered.{AreKept, FitInTurn, IsBad, Misfit, with_records}
-use Rattle.crsm_log.specs.Format.{Reading, bad, bodies_of, found}
+use Rattle.crsm_log.specs.Format.{bad, bodies_of, found}
 use Rattle.crsm_shell.specs.Booting.{IsBadLog}
 use Rattle.crsm_shell.specs.Shell.{HasLog}
 

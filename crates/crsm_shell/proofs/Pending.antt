@@ -1,5 +1,5 @@
 -- One more pending step, and a core that stands for some replica.
-use Rattle.std.proofs.Common.{◌≡◌, IsTrue, ℕ, ◌+◌, List, [], ◌∷◌, ◌++◌, length, refl, sym, ◌∙◌, ap, subst, false, length-append}
+use Rattle.std.proofs.Common.{◌≡◌, ℕ, ◌+◌, List, [], ◌∷◌, ◌++◌, length, sym, ◌∙◌, ap, subst, false, length-append}
 use Rattle.std.specs.List.{AllByRecursion}
 use Rattle.crsm_base.specs.declared.rec.Rec.{Rec}
 use Rattle.crsm_base.specs.declared.send.Send.{Send}
@@ -14,7 +14,7 @@ use Rattle.crsm_replica_output.specs.declared.batch.Batch.{Batch}
 use Rattle.crsm_replica_io.specs.Outgoing.{FitsSend, packets_for}
 use Rattle.crsm_core.specs.Core.{Answers, CoreStands, FitsSent}
 use Rattle.crsm_shell.specs.declared.shell.Shell.{Shell}
-use Rattle.crsm_shell.specs.Shell.{HasLog, ShellStands, StandsInside, records_of, sends_in, sends_of}
+use Rattle.crsm_shell.specs.Shell.{HasLog, ShellStands, records_of, sends_in, sends_of}
 use Rattle.crsm_shell.specs.Taking.{MakesStep}
 use Rattle.crsm_shell.proofs.Records.{all_more, body_more, packets_more, records_push, sends_push, with_more}
 use Rattle.crsm_fact_step.specs.Steps.{Grown}

@@ -1,12 +1,11 @@
 -- The effect of a flush on the port: the reservation, and then the sends.
 use Rattle.std.proofs.Common.{◌≡◌, ℕ, ◌≤◌, List, length, map, refl, sym, ◌∙◌, ap, subst}
 use Rattle.std.specs.Prelude.{Option, Some, None, option_map}
-use Rattle.std.proofs.lemmas.Option.{none-some}
 use Rattle.crsm_port_faults.specs.Failing.{one_less}
-use Rattle.crsm_port_faults.specs.Plan.{HasRoom, Plan, spent}
-use Rattle.crsm_port.specs.Meaning.{Meaning, Packet, Traffic}
+use Rattle.crsm_port_faults.specs.Plan.{HasRoom, Plan}
+use Rattle.crsm_port.specs.Meaning.{Meaning, Packet}
 use Rattle.crsm_replica_io.specs.Outgoing.{GoesOut, SendsAll, bytes_in, raised_by, with_all_sent}
-use Rattle.crsm_shell.specs.Flushing.{GoesWell, SendsNone, SendsPackets}
+use Rattle.crsm_shell.specs.Flushing.{GoesWell, SendsPackets}
 
 -- room is made, and the calls go as well as before
 abbrev pub HasMade : ℕ → ℕ → Meaning → Meaning → Type 0

@@ -9,7 +9,6 @@ use Rattle.crsm_base.specs.declared.command.Op.TheVariants.{Get, Put, Delete, Ca
 use Rattle.crsm_base.specs.declared.command.Command.{Command}
 use Rattle.crsm_base.specs.declared.command.Entry.{Entry}
 use Rattle.crsm_base.specs.declared.decision.Decision.{Decision}
-use Rattle.crsm_base.specs.declared.answer.Answer.{Answer}
 use Rattle.crsm_base.specs.declared.answer.Answer.TheVariants.{Found, Missing, Done, Differs, Stale, NoRoom}
 use Rattle.crsm_base.specs.declared.answer.Outcome.{Outcome}
 use Rattle.crsm_base.specs.declared.answer.Outcome.TheVariants.{Answered, Refused}
@@ -23,7 +22,7 @@ use Rattle.crsm_base.specs.declared.send.Send.{Send}
 use Rattle.crsm_base.specs.Members.{IsMembers, RisesWithin}
 use Rattle.crsm_base.specs.Messages.{FitsDatagram, FitsPayload}
 use Rattle.crsm_base.specs.Records.{FitsRec}
-use Rattle.crsm_base.specs.Spelling.{FitsAnswer, FitsBallot, FitsCommand, FitsDecision, FitsEntries, FitsEntry, FitsKey, FitsOp, FitsOption, FitsOutcome, FitsStamp, FitsVal, IsBefore, Rises, RisesAfter}
+use Rattle.crsm_base.specs.Spelling.{FitsCommand, FitsDecision, FitsEntries, FitsEntry, FitsOp, FitsOption, FitsOutcome, FitsVal, IsBefore, Rises, RisesAfter}
 use Rattle.crsm_base.specs.declared.send.To.{To}
 use Rattle.crsm_base.specs.declared.send.To.TheVariants as to_whom
 use Rattle.crsm_core.specs.Core.{FitsSent, FitsTo}

@@ -1,12 +1,11 @@
 -- Records of steps, and the logs of bodies.
-use Rattle.std.proofs.Common.{◌≡◌, ℕ, true, List, [], ◌∷◌, ◌++◌, refl, sym, ◌∙◌, ap, subst, append-nil}
-use Rattle.std.specs.List.{flat_map, AllByRecursion}
+use Rattle.std.proofs.Common.{◌≡◌, ℕ, List, [], ◌∷◌, ◌++◌, refl, sym, ◌∙◌, ap, subst, append-nil}
+use Rattle.std.specs.List.{AllByRecursion}
 use Rattle.std.proofs.lemmas.List.Concat.{flat_map-append}
 use Rattle.crsm_base.specs.declared.send.Send.{Send}
 use Rattle.crsm_base.specs.Records.{FitsRec, SpeltBody, body_bytes, rec_bytes}
 use Rattle.crsm_spec.specs.Types.{Rec}
 use Rattle.crsm_spec.specs.Log.{Log}
-use Rattle.crsm_spec.specs.Fits.{fits}
 use Rattle.crsm_spec.specs.Draft.{Draft}
 use Rattle.crsm_replica_epoch.specs.EpochState.{EachFits}
 use Rattle.crsm_ledger.specs.Recovered.{AreKept, FitInTurn, with_records}

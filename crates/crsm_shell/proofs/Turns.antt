@@ -1,6 +1,6 @@
 -- The effect of a turn, by those of its take and its flush.
 use Rattle.std.proofs.Common.{◌≡◌, IsTrue, ℕ, List, [], ◌∷◌, ◌++◌, refl, sym, subst, inl}
-use Rattle.std.specs.Prelude.{Option, Result, Ok, Err, IfErr, Some}
+use Rattle.std.specs.Prelude.{Option, Result, Err, IfErr, Some}
 use Rattle.crsm_port_faults.specs.Plan.{Plan}
 use Rattle.crsm_spec.specs.Draft.{Draft}
 use Rattle.crsm_spec.specs.Log.{Log}
@@ -13,7 +13,6 @@ use Rattle.crsm_log.specs.Format.{bodies_of}
 use Rattle.crsm_log.specs.Log.{IsSettled, Used, recorded}
 use Rattle.crsm_port.specs.Meaning.{Meaning as PortMeaning}
 use Rattle.crsm_replica_io.specs.declared.input.WantedInput.{WantedInput}
-use Rattle.crsm_replica_io.specs.declared.input.ReceivedInput.{ReceivedInput}
 use Rattle.crsm_shell.specs.declared.errors.TurnError.{TurnError}
 use Rattle.crsm_shell.specs.declared.errors.TurnError.TheVariants as errors
 use Rattle.crsm_shell.specs.declared.shell.Shell.{Shell}
@@ -21,7 +20,7 @@ use Rattle.crsm_shell.specs.declared.turned.TurnResult.{TurnResult}
 use Rattle.crsm_shell.specs.Flushing.{Adds, IsFull, IsLeft, IsOfPut, IsOneOf, SendsNone, StopsFlush, keep_calls, keep_count}
 use Rattle.crsm_shell.specs.Shell.{HasLog, ShellStands, group_body, records_of}
 use Rattle.crsm_shell.specs.Taking.{Reads, Takes, step_of, turn_of}
-use Rattle.crsm_shell.specs.Turning.{FailsOnPort, FailsToFlush, KeepsGroup, Loses, LosesStep, TakesOnly}
+use Rattle.crsm_shell.specs.Turning.{FailsOnPort, FailsToFlush, KeepsGroup, LosesStep, TakesOnly}
 use Rattle.crsm_shell.specs.Words.{buffer_of, disk_of, gate_of}
 use Rattle.crsm_shell.proofs.Groups.{inside, left_bodies}
 use Rattle.crsm_fact_step.proofs.Batches.{turn_grown}

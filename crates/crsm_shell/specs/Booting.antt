@@ -1,12 +1,12 @@
 -- The result of a boot.
-use Rattle.std.specs.Prelude.{◌≡◌, ◌⊎◌, ◌↔◌, ℕ, ◌+◌, ◌<◌, List, [], ◌∷◌, ◌++◌, length, false, IsTrue, Some}
+use Rattle.std.specs.Prelude.{◌≡◌, ◌⊎◌, ℕ, ◌+◌, List, [], ◌∷◌, ◌++◌, length, false, IsTrue, Some}
 use Rattle.crsm_base.specs.Records.{body_bytes}
 use Rattle.crsm_spec.specs.Log.{Log}
 use Rattle.crsm_spec.specs.Step.{boot}
 use Rattle.crsm_spec.specs.World.{body_size}
 use Rattle.crsm_port_faults.specs.Counts.{Rose}
 use Rattle.crsm_port_faults.specs.Plan.{Plan}
-use Rattle.crsm_disk.specs.Meaning.{LeavesOnly, Meaning}
+use Rattle.crsm_disk.specs.Meaning.{Meaning}
 use Rattle.crsm_ledger.specs.Recovered.{AreKept, IsBadAt}
 use Rattle.crsm_log.specs.Format.{Reading, bad, bodies_of, found, gate_in, reading}
 use Rattle.crsm_log.specs.Log.{Goes, MeetsIn, Serves, Used, mount_calls, mount_count, put_calls, recorded}

@@ -6,7 +6,7 @@ ghost use Rattle.crsm_ledger.specs.Recovered.{AreKept};
 ghost use Rattle.crsm_ledger.specs.Ledger.{LedgerStands};
 ghost use Rattle.crsm_spec.specs.Clock.{u64_max};
 ghost use Rattle.crsm_spec.specs.Log.{Log, boots};
-ghost use Rattle.crsm_shell.specs.Beginning.{BeginsOn, IsLedgerOf, IsLedgerOfOne, IsRefusal};
+ghost use Rattle.crsm_shell.specs.Beginning.{AwaitsOne, BeginsOn, HasBooted, IsLedgerOf, IsLedgerOfOne, IsRefusal};
 
 use crate::errors::BootError;
 use crsm_base::{Bodies, Bytes, Lines, NoMemory};
@@ -58,17 +58,35 @@ pub(crate) fn begin_on(alloc: Global, peers: &[u64], ledger: Ledger) -> Result<B
     ensures refused { IfErr result (λ why. why ≡ BootError.NoMemory) }
 {
     let mut core = core_on(alloc, ledger)?;
-    let (peers, buffer) = room_for(alloc, peers)?;
-    let batch = core.begin()?;
-    let mut body = Bytes::new(alloc);
-    write_records(batch.records.as_slice(), &mut body)?;
+    let Ok((body, lines)) = boot(alloc, &mut *core) else {
+        drop(core);
+        return Err(BootError::NoMemory);
+    };
+    let Ok((peers, buffer)) = room_for(alloc, peers) else {
+        drop((core, body, lines));
+        return Err(BootError::NoMemory);
+    };
     Ok(Begun {
         core,
         peers,
         buffer,
         body,
-        lines: batch.lines,
+        lines,
     })
+}
+
+/// Boots the core. Returns the encodings of the boot's records, and their lines.
+fn boot(alloc: Global, core: &mut Core) -> Result<(Bytes, Lines), NoMemory>
+    requires { ∥ AwaitsOne core.old ∥₁ }
+    ensures { IfOk result (λ made. (me n : ℕ) (log : Log) → CoreAwaits core.old me n log → boots log < u64_max → HasBooted core.new made.0 made.1 me n log) }
+{
+    let batch = core.begin()?;
+    let mut body = Bytes::new(alloc);
+    let Ok(()) = write_records(batch.records.as_slice(), &mut body) else {
+        drop((batch, body));
+        return Err(NoMemory);
+    };
+    Ok((body, batch.lines))
 }
 
 /// Returns the core of the ledger, which awaits its boot.

@@ -1,23 +1,26 @@
 //! The taking of a step.
 
-ghost use Rattle.std.specs.Prelude.{◌≡◌, ◌<◌, ◌+◌, ◌↔◌, true, false, length, is_err, IfOk, OnOk, IsErrOf, MatchResult};
+ghost use Rattle.std.specs.Prelude.{◌≡◌, ◌<◌, ◌+◌, ◌++◌, ◌↔◌, true, false, length, is_err, IfOk, OnOk, IsErrOf, MatchResult};
 ghost use Rattle.std.specs.List.{AllByRecursion};
+ghost use Rattle.crsm_base.specs.Records.{FitsRec, body_bytes};
 ghost use Rattle.crsm_core.specs.Core.{FitsSent};
 ghost use Rattle.crsm_shell.specs.Shell.{ShellStands, WhereStands};
 ghost use Rattle.crsm_shell.specs.Errors.{is_lasting};
 ghost use Rattle.crsm_shell.specs.Taking.{AreBytes, IsTyped, MakesStep, Reads, Receives, Takes, TakesStep, heard_in, most_received, turn_of, step_at};
 ghost use Rattle.crsm_replica_io.specs.Input.{IsWithin};
+ghost use Rattle.crsm_replica_io.specs.Outgoing.{FitsSend, packets_for};
 ghost use Rattle.crsm_shell.specs.Words.{buffer_of, disk_of, gate_of, peers_of, pending_of, has_failed};
 
 use crate::errors::TurnError;
 use crate::make::{StepResult, make};
 use crate::shell::Shell;
 use crate::turned::TurnResult;
-use crsm_base::NoMemory;
+use crsm_base::{Bytes, NoMemory};
 use crsm_clock::Clock;
 use crsm_disk::Disk;
 use crsm_port::Port;
-use crsm_replica_io::{ReceivedInput, WantedInput, take_input, write_records};
+use crsm_replica_io::{Outbox, ReceivedInput, WantedInput, take_input, write_records};
+use crsm_replica_output::Batch;
 
 impl<D: Disk> Shell<D> {
     /// Takes the wanted input and runs its step. The clock is read after the input was received. The step is pending
@@ -64,7 +67,10 @@ impl<D: Disk> Shell<D> {
         are_bytes(&self.buffer);
         // A receive may have waited: an earlier reading would be stale.
         let reading = clock.now();
-        let (made, size) = self.step(&taken, reading)?;
+        let Ok((made, size)) = self.step(&taken, reading) else {
+            drop(taken);
+            return Err(TurnError::NoMemory);
+        };
         Ok(TurnResult {
             reading,
             taken,
@@ -91,13 +97,34 @@ impl<D: Disk> Shell<D> {
         // A caller that sees an error below must not continue from half a step.
         self.failed = true;
         let made = make(self.alloc, &mut *self.core, taken, &self.buffer, reading)?;
-        let before = self.body.as_slice().len() as u64;
-        write_records(made.batch.records.as_slice(), &mut self.body)?;
-        self.outbox.add(made.batch.sends.as_slice(), &self.peers)?;
+        let Ok(size) = pend(&made.batch, &mut self.body, &mut self.outbox, &self.peers) else {
+            drop(made);
+            return Err(NoMemory);
+        };
         self.pending += 1;
         self.failed = false;
-        Ok((made, self.body.as_slice().len() as u64 - before))
+        Ok((made, size))
     }
+}
+
+/// Appends the records and the datagrams of a step to those of the pending ones, and returns the length in bytes of its
+/// records. `NoMemory` if memory runs out; some of them may then have been appended.
+fn pend(
+    batch: &Batch,
+    body: &mut Bytes,
+    outbox: &mut Outbox,
+    peers: &[u64],
+) -> Result<u64, NoMemory>
+    requires records { AllByRecursion FitsRec batch.now.records }
+    requires sends { AllByRecursion FitsSend batch.now.sends }
+    ensures body { OnOk result (body.new ≡ body.old ++ body_bytes batch.now.records) }
+    ensures outbox { OnOk result (outbox.new ≡ outbox.old ++ packets_for peers.now batch.now.sends) }
+    ensures size { IfOk result (λ size. size ≡ length (body_bytes batch.now.records)) }
+{
+    let before = body.as_slice().len() as u64;
+    write_records(batch.records.as_slice(), body)?;
+    outbox.add(batch.sends.as_slice(), peers)?;
+    Ok(body.as_slice().len() as u64 - before)
 }
 
 /// States that the bytes of a buffer are bytes. It runs no code.

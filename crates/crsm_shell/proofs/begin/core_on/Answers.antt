@@ -1,4 +1,4 @@
-use Rattle.std.proofs.Common.{◌≡◌, sym, subst}
+use Rattle.std.proofs.Common.{sym, subst}
 use Rattle.crsm_core.specs.Core.{CoreAwaits}
 use Rattle.crsm_core.specs.declared.replica.Core.{Core}
 use Rattle.crsm_ledger.specs.declared.ledger.Ledger.{Ledger}

@@ -1,4 +1,4 @@
-use Rattle.std.proofs.Common.{◌<◌, ℕ, List, [], ◌∷◌, get_or, zero, suc}
+use Rattle.std.proofs.Common.{◌<◌, ℕ, List, [], ◌∷◌, get_or, suc}
 use Rattle.std.specs.List.{AllByRecursion}
 use Rattle.crsm_shell.proofs.take.are_bytes.Goals as goal
 

@@ -1,7 +1,7 @@
-use Rattle.std.proofs.Common.{◌≡◌, IsTrue, ℕ, List, [], refl, sym, ◌∙◌, ap, subst}
+use Rattle.std.proofs.Common.{IsTrue, ℕ, List, [], sym, ◌∙◌, ap, subst}
 use Rattle.std.proofs.lemmas.Result.{IfErr-weaker, IfOk-weaker}
 use Rattle.crsm_ledger.specs.Recovered.{AreKept}
-use Rattle.crsm_log.specs.Format.{found, reading}
+use Rattle.crsm_log.specs.Format.{found}
 use Rattle.crsm_log.specs.Words as logs
 use Rattle.crsm_spec.specs.Log.{Log}
 use Rattle.crsm_disk.specs.Meaning.{LeavesOnly}

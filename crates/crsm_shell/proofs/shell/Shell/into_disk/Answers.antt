@@ -1,6 +1,5 @@
-use Rattle.std.proofs.Common.{◌≡◌, [], ◌∙◌, sym, ap, arith}
+use Rattle.std.proofs.Common.{[], ◌∙◌, sym, ap, arith}
 use Rattle.crsm_port_image.specs.Image.{image_of}
-use Rattle.crsm_log.specs.Words as logs
 use Rattle.crsm_spec.specs.Moments.{is_kept}
 use Rattle.crsm_shell.specs.Shell.{records_of}
 use Rattle.crsm_shell.specs.Words.{disk_of, gate_of}

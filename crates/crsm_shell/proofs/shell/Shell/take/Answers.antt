@@ -1,4 +1,4 @@
-use Rattle.std.proofs.Common.{◌≡◌, false, sym, ◌∙◌, ap}
+use Rattle.std.proofs.Common.{◌≡◌, ◌∙◌, ap}
 use Rattle.std.specs.Prelude.{Result, Err}
 use Rattle.crsm_shell.specs.declared.errors.TurnError.{TurnError}
 use Rattle.crsm_shell.specs.declared.errors.TurnError.TheVariants as errors
@@ -28,7 +28,7 @@ returns-in-Err-clause-usable g c is kept r steps s = record {
 
 pub returns-clause-stands : goal.returns-clause-stands
 unfolding ShellStands
-returns-clause-stands g c kept r steps s = c.in_ok-made.ensures.stands kept r steps (record {
+returns-clause-stands g c kept r steps s = c.in-Ok-step.ensures.stands kept r steps (record {
   core = s.core;
   well = s.well;
   body = s.body;
