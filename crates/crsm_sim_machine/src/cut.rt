@@ -100,9 +100,15 @@ pub(crate) fn cut(
 {
     let mut shell = shell;
     let before = summary_of(shell.state());
-    let step = take(&mut shell, arrival, reading)?;
+    let Ok(step) = take(&mut shell, arrival, reading) else {
+        drop(shell);
+        return Err(NoMemory);
+    };
     let after = summary_of(shell.state());
-    let disk = stopped_disk(shell, stop)?;
+    let Ok(disk) = stopped_disk(shell, stop) else {
+        drop(step);
+        return Err(NoMemory);
+    };
     if is_kept_at(stop, &step) {
         return Ok((
             Some(step),

@@ -93,18 +93,27 @@ fn boot_on_disk(alloc: Global, me: u32, n: u32, disk: MemDisk) -> Result<Running
 {
     logs_are_not_bad();
     match Shell::boot(alloc, me, n, &ADDRESSES, disk) {
-        Ok(booted) => Ok(Running {
-            shell: booted.shell,
-            boot: Boot {
-                lines: booted.lines,
-                size: booted.size,
-            },
-        }),
+        Ok(booted) => {
+            drop(booted.bodies);
+            Ok(Running {
+                shell: booted.shell,
+                boot: Boot {
+                    lines: booted.lines,
+                    size: booted.size,
+                },
+            })
+        }
         Err((BootError::BadLog { .. }, _disk)) => unreachable!(),
         Err((BootError::DiskFault, _disk)) => unreachable!(),
         // The log has no room for the boot.
-        Err((BootError::LogFull, _disk)) => Err(NoMemory),
-        Err((BootError::NoMemory, _disk)) => Err(NoMemory),
+        Err((BootError::LogFull, disk)) => {
+            drop(disk);
+            Err(NoMemory)
+        }
+        Err((BootError::NoMemory, disk)) => {
+            drop(disk);
+            Err(NoMemory)
+        }
     }
 }
 
@@ -124,7 +133,13 @@ fn boot_on_log(alloc: Global, left: StoppedLog<MemDisk>) -> Result<Running, NoMe
         Err((BootError::BadLog { .. }, _disk)) => unreachable!(),
         Err((BootError::DiskFault, _disk)) => unreachable!(),
         // The log has no room for the boot.
-        Err((BootError::LogFull, _disk)) => Err(NoMemory),
-        Err((BootError::NoMemory, _disk)) => Err(NoMemory),
+        Err((BootError::LogFull, disk)) => {
+            drop(disk);
+            Err(NoMemory)
+        }
+        Err((BootError::NoMemory, disk)) => {
+            drop(disk);
+            Err(NoMemory)
+        }
     }
 }

@@ -127,6 +127,9 @@ pub(crate) fn step(
     ensures spelt { IfOk result (λ made. AllByRecursion FitsSent made.0.batch.sends) }
 {
     let step = take(shell, arrival, reading)?;
-    let first = flush(shell, port)?;
+    let Ok(first) = flush(shell, port) else {
+        drop(step);
+        return Err(NoMemory);
+    };
     Ok((step, first))
 }

@@ -4,12 +4,12 @@ use Rattle.crsm_sim_machine.proofs.turn.step.Goals as goal
 pub returns-clause-stands : goal.returns-clause-stands
 returns-clause-stands c me n kept r steps h =
     let t = c.in_ok-step.ensures.stands me n kept r steps h in
-    (t.0, c.in_ok-first.ensures.stands me n kept _ _ t.2)
+    (t.0, c.in-Ok.ensures.stands me n kept _ _ t.2)
 
 pub returns-clause-sent : goal.returns-clause-sent
 returns-clause-sent c me n kept r steps h well =
     let t = c.in_ok-step.ensures.stands me n kept r steps h in
-    c.in_ok-first.ensures.sent me n kept _ _ t.2 well
+    c.in-Ok.ensures.sent me n kept _ _ t.2 well
 
 -- ---- some replica is up
 
