@@ -1,17 +1,11 @@
-//! Runs three nodes and a client of theirs as processes of its own over the loopback network, replays the sheet of each
-//! node, and says whether what each took from another is what that one's replayed sheet sends.
+//! Runs the trial of processes over itself: without words it is the trial, with words one of its nodes, its client or a
+//! replay.
 #![tactic(auto)]
 
-mod fault;
-mod processes;
-mod sheets;
-mod whole;
-
-use crate::whole::trial;
 use std::env::{self, Env};
 use std::process::ExitCode;
 
-/// Whether words were given: then this process is one of the nodes, or the client.
+/// Whether words were given: then this process is one that the trial started.
 fn has_words<R: AllocGlobal + Env>(rt: &R) -> bool {
     match env::args(rt) {
         Ok(words) => words.count() > 1,
@@ -23,7 +17,7 @@ fn main(rt: HostRuntime) -> ExitCode {
     if has_words(&rt) {
         return crsm_app::start(&rt);
     }
-    match trial(&rt) {
+    match crsm_test_processes::trial(&rt) {
         Ok(()) => ExitCode::SUCCESS,
         Err(fault) => {
             let _ = rt.eprintln(fault);

@@ -102,9 +102,9 @@ fn run_all<R: AllocGlobal + Files<File = File> + Print + Processes>(
     tell_ends(rt, &statuses?)
 }
 
-/// Runs three nodes of this program and a client of theirs over the loopback network, each a process of its own, and says
-/// on standard output what the client was answered, how the nodes ended and what each took from the others. The sheets
-/// and the logs of the nodes stay in the current folder.
+/// Runs three nodes and a client of theirs over the loopback network, and says on standard output what the client was
+/// answered, how the nodes ended and what each took from the others. Each is a process of the program that runs, which
+/// has to execute the words of a command. The sheets and the logs of the nodes stay in the current folder.
 ///
 /// # Errors
 /// A process, a socket, a file or the output that fails ends it.

@@ -1,4 +1,4 @@
-//! The nodes, the client and what replays a sheet, each a process of this program.
+//! The nodes, the client and what replays a sheet, each a process of the program that runs.
 
 use crate::fault::Fault;
 use crsm_port::UdpPort;
@@ -78,7 +78,7 @@ fn remove<R: Files>(rt: &R, name: &str) -> Result<(), Fault> {
     }
 }
 
-/// Returns the command that starts this program with these words.
+/// Returns the command that starts the program that runs, with these words.
 fn command_of<R: AllocGlobal + Files>(rt: &R, words: &[&str]) -> Result<Box<Command>, Fault> {
     let mut command = bare_command(rt)?;
     add_words(&mut command, words)?;
