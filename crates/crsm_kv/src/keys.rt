@@ -15,20 +15,6 @@ use std::collections::BTreeMap;
 /// The values by their keys, in ascending key order.
 pub type Keys = BTreeMap<StoredKey, Val>;
 
-/// Returns the value of the key, or `None` if the key is missing. A search of the map would need a copy of the key, and
-/// a copy takes memory; so this goes through the keys.
-#[tactic(auto, unfolding(crsm_base::specs::Store::value_at))]
-pub fn seek<'a>(keys: &'a Keys, key: &Key) -> Option<&'a Val>
-    ensures { option_copied result ≡ value_at key.now keys.now.entries }
-{
-    for (stored, value) in keys.iter() {
-        if stored.as_slice() == key.as_slice() {
-            return Some(value);
-        }
-    }
-    None
-}
-
 /// Returns the value of the key, or `None` if the key is missing.
 #[tactic(auto, using(crate::proofs::KeysLemmas::keys_rules))]
 fn value_of<'a>(keys: &'a Keys, key: &StoredKey) -> Option<&'a Val>

@@ -1,13 +1,12 @@
 //! The sequential store with its contract: one command at a time, each executed at most once.
 
 ghost use Rattle.std.specs.Prelude.{◌≡◌, IfOk, IfSome, OnErr, OnOk, length};
-ghost use Rattle.std.specs.Option.{option_copied};
-ghost use Rattle.crsm_base.specs.Store.{no_rows, apply, serve, client_row, value_at, done, operate};
+ghost use Rattle.crsm_base.specs.Store.{no_rows, apply, serve, client_row, done, operate};
 ghost use Rattle.crsm_kv.specs.Clients.{IsPlaceOf};
 
 use crate::clients::{self, Clients, Kept};
 use crate::keys::{self, Answered, Keys};
-use crsm_base::{Answer, Command, Key, MAX_CLIENTS, NoMemory, Val};
+use crsm_base::{Answer, Command, MAX_CLIENTS, NoMemory};
 use indexmap::IndexMap;
 use std::alloc::Global;
 use std::collections::BTreeMap;
@@ -78,13 +77,6 @@ impl Store {
         };
         clients::keep(&mut self.clients, command.client, place, kept)?;
         Ok(told)
-    }
-
-    /// Returns the value of the key, or `None` if the key is missing.
-    pub fn get(&self, key: &Key) -> Option<&Val>
-        ensures { option_copied result ≡ value_at key.now self.now.keys }
-    {
-        keys::seek(&self.keys, key)
     }
 
     /// Returns the number of clients.

@@ -36,13 +36,6 @@ impl StoredKey {
             key: key.copy(alloc)?,
         })
     }
-
-    /// Returns the bytes in order.
-    pub fn as_slice(&self) -> &[u8]
-        ensures { result.now ≡ self.now }
-    {
-        self.key.as_slice()
-    }
 }
 
 /// Returns the first eight bytes as a number, the first byte as its highest. Missing bytes are zeros.
