@@ -1,19 +1,14 @@
 //! Reads tables of runs from the standard input, and writes what each run leads to.
 //!
-//! A line `table NAME` names the table of the cases behind it, up to the next such line, and is written through. The
-//! module of a table says what its cases are: `runs`, `soak` and `delay`.
+//! A line `table NAME` names the table of the cases behind it, up to the next such line, and is written through. What
+//! its cases are says the module `runs`, or `soak` and `delay` of `crsm_test_world`.
 #![tactic(auto)]
 
-mod case;
-mod delay;
-mod fault;
-mod fields;
 mod runs;
-mod soak;
-mod table;
 
-use crate::fault::Fault;
-use crate::table::{Table, read_tables};
+use crate::runs::show_runs;
+use crsm_test_cases::{Fault, Table, read_tables};
+use crsm_test_world::{show_delays, show_soaks};
 use std::io::{self, Print};
 
 /// Writes the heading of a table, and what its cases lead to.
@@ -21,9 +16,9 @@ fn show_table<R: AllocGlobal + Print>(rt: &R, table: &Table) -> Result<(), Fault
     let name = table.name.as_str();
     println!(rt; "table {name}")?;
     match name {
-        "runs" => runs::show_all(rt, table.cases.as_str()),
-        "soak" => soak::show_all(rt, table.cases.as_str()),
-        "delay" => delay::show_all(rt, table.cases.as_str()),
+        "runs" => show_runs(rt, table.cases.as_str()),
+        "soak" => show_soaks(rt, table.cases.as_str()),
+        "delay" => show_delays(rt, table.cases.as_str()),
         _ => Err(Fault::NoTable),
     }
 }

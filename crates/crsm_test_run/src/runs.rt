@@ -1,71 +1,48 @@
 //! The table `runs`: `== NAME` and a manner begin a case, which is run over memory. It answers what each run wrote,
 //! sent, kept and answered.
 
-use crate::case::Case;
-use crate::fault::Fault;
-use crate::fields::parted;
-use crsm_app::Status;
-use crsm_base::{Bytes, NoMemory};
-use crsm_disk::MemDisk;
-use crsm_port::MemPort;
-use crsm_text::{push_hex, push_number};
+use crsm_app::{Silent, Status, run};
+use crsm_base::Bytes;
+use crsm_test_cases::{Case, Fault, left_of, parted};
 use std::alloc::Global;
 use std::io::{self, Print, Write};
 
-/// Appends a line `sent TO HEX`.
-fn push_packet(text: &mut Bytes, to: u64, bytes: &[u8]) -> Result<(), NoMemory> {
-    text.append(b"sent ")?;
-    push_number(text, to)?;
-    text.push(b' ')?;
-    push_hex(text, bytes)?;
-    text.push(b'\n')
+/// Does what the words of a case say over its devices.
+fn run_case(alloc: Global, case: &mut Case) -> Status {
+    run(
+        alloc,
+        &case.words,
+        &mut *case.input,
+        &mut *case.output,
+        &mut *case.port,
+        &mut *case.disk,
+        &mut *case.clock,
+        &mut Silent,
+    )
 }
 
-/// Appends what was sent, a line for each datagram.
-fn push_sent(text: &mut Bytes, port: &MemPort) -> Result<(), NoMemory> {
-    let packets = port.sent();
-    for i in 0..packets.len() {
-        if let Some((to, bytes)) = packets.get(i) {
-            push_packet(text, to, bytes)?;
-        }
-    }
-    Ok(())
+/// Returns how the run of a case ended, and what it wrote, sent and kept. Each case is given up before a way out, which
+/// keeps the drops of its devices out of this proof.
+fn end_of(alloc: Global, header: &str, text: &str) -> Result<(Status, Bytes), Fault> {
+    let mut case = Case::read(alloc, header, text)?;
+    let status = run_case(alloc, &mut case);
+    Ok((status, left_of(alloc, case)?))
 }
 
-/// Appends the log file, on a line `file HEX`, if it has a byte.
-fn push_file(text: &mut Bytes, disk: &MemDisk) -> Result<(), NoMemory> {
-    if disk.bytes().is_empty() {
-        return Ok(());
-    }
-    text.append(b"file ")?;
-    push_hex(text, disk.bytes())?;
-    text.push(b'\n')
-}
-
-/// Appends what a run wrote, sent and kept.
-fn push_left(text: &mut Bytes, case: &Case) -> Result<(), NoMemory> {
-    text.append(case.output.as_slice())?;
-    push_sent(text, &case.port)?;
-    push_file(text, &case.disk)
-}
-
-/// Writes what a run wrote, sent, kept and answered.
-fn show<R: AllocGlobal + Print>(rt: &R, case: &Case, status: Status) -> Result<(), Fault> {
-    let mut text = Bytes::new(rt.alloc());
-    push_left(&mut text, case)?;
-    io::writer(rt).write_all(text.as_slice())?;
+/// Writes what the run of a case wrote, sent, kept and answered.
+fn show<R: AllocGlobal + Print>(rt: &R, case: &str) -> Result<(), Fault> {
+    let (header, text) = parted(case, "\n")?;
+    let (status, left) = end_of(rt.alloc(), header, text)?;
+    println!(rt; "== {header}")?;
+    io::writer(rt).write_all(left.as_slice())?;
     println!(rt; "status {}, {status}", status.number())?;
     Ok(())
 }
 
 /// Writes what the run of each case wrote, sent, kept and answered.
-pub fn show_all<R: AllocGlobal + Print>(rt: &R, cases: &str) -> Result<(), Fault> {
+pub fn show_runs<R: AllocGlobal + Print>(rt: &R, cases: &str) -> Result<(), Fault> {
     for case in cases.split("== ").skip(1) {
-        let (header, text) = parted(case, "\n")?;
-        let mut case = Case::read(rt.alloc(), header, text)?;
-        let status = case.run(rt.alloc());
-        println!(rt; "== {header}")?;
-        show(rt, &case, status)?;
+        show(rt, case)?;
     }
     Ok(())
 }

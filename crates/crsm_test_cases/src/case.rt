@@ -3,7 +3,6 @@
 
 use crate::fault::Fault;
 use crate::fields::{boxed_source, number_of, parted, sink_of, source_of};
-use crsm_app::{Silent, Status, run};
 use crsm_clock::ListClock;
 use crsm_disk::{Disk, MemDisk};
 use crsm_io::{MemSink, MemSource};
@@ -14,12 +13,12 @@ use std::alloc::Global;
 /// A case: the words of its command line, and the devices that it runs over.
 #[derive(Drop)]
 pub struct Case {
-    words: Vec<String>,
-    input: Box<MemSource>,
+    pub words: Vec<String>,
+    pub input: Box<MemSource>,
     pub output: Box<MemSink>,
     pub port: Box<MemPort>,
     pub disk: Box<MemDisk>,
-    clock: Box<ListClock>,
+    pub clock: Box<ListClock>,
 }
 
 /// Returns the word of a header behind this one.
@@ -145,19 +144,5 @@ impl Case {
             clock: clock_of(alloc, header)?,
         };
         Ok(Box::new(alloc, case)?)
-    }
-
-    /// Does what the words say over memory.
-    pub fn run(&mut self, alloc: Global) -> Status {
-        run(
-            alloc,
-            &self.words,
-            &mut *self.input,
-            &mut *self.output,
-            &mut *self.port,
-            &mut *self.disk,
-            &mut *self.clock,
-            &mut Silent,
-        )
     }
 }

@@ -3,9 +3,9 @@
 
 ghost use Rattle.std.specs.Prelude.{◌≤◌, IfSome};
 
-use crate::fault::Fault;
 use crsm_cmd_soak::soak;
 use crsm_io::StdSink;
+use crsm_test_cases::Fault;
 use crsm_text::read_number;
 use std::io::{self, Print};
 
@@ -25,7 +25,10 @@ fn numbers(line: &str) -> Option<(u64, u32, u64)>
 }
 
 /// Writes what each soak writes, and how it ends.
-pub fn show_all<R: AllocGlobal + Print>(rt: &R, cases: &str) -> Result<(), Fault> {
+///
+/// # Errors
+/// The output failed.
+pub fn show_soaks<R: AllocGlobal + Print>(rt: &R, cases: &str) -> Result<(), Fault> {
     for line in cases.lines() {
         let Some((number, replicas, steps)) = numbers(line) else {
             println!(rt; "no soak: {line}")?;
