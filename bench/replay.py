@@ -1,11 +1,12 @@
 """Replay: events a second of a schedule, also as a ratio to another program's.
 
-    python3 bench/replay.py [--requests COUNT] [--replicas N] [--schedule FILE] [--leader] [--runs COUNT]
-        [-- COMMAND ..]
+    python3 bench/replay.py [--requests COUNT] [--replicas N] [--schedule FILE] [--leader settles|deliveries]
+        [--runs COUNT] [-- COMMAND ..]
 
-The schedule is one of requests, or that of the file; with --leader it is replayed by `replay-mp`. The other program
-reads the same schedule from its standard input. It is timed once, since it may be slow. A run that is timed writes to
-the null device, and the two outputs are compared apart from that.
+The schedule is one of requests, or that of the file; with --leader it is replayed by `replay-mp`, and its messages are
+delivered by settles or one by one. The other program reads the same schedule from its standard input. It is timed three
+times, since it may be slow. A run that is timed writes to the null device, and the two outputs are compared apart from
+that.
 """
 
 import argparse
@@ -25,7 +26,7 @@ def arguments():
     parser.add_argument("--requests", type=int, default=REQUESTS)
     parser.add_argument("--replicas", type=int, default=REPLICAS)
     parser.add_argument("--schedule", help="a file to be replayed in place of requests")
-    parser.add_argument("--leader", action="store_true", help="replay it over a store with a leader")
+    parser.add_argument("--leader", choices=["settles", "deliveries"], help="replay it over a store with a leader")
     parser.add_argument("--runs", type=int, default=RUNS, help="how often this program is timed")
     parser.add_argument("command", nargs="*")
     return parser.parse_args()
@@ -41,7 +42,7 @@ def rate(command, whole, one, runs):
 def schedules(asked):
     """The whole schedule, and a short one, whose time is that of a start."""
     if asked.schedule is None:
-        return schedule(asked.requests, asked.replicas), schedule(1, asked.replicas)
+        return tuple(schedule(count, asked.replicas, asked.leader) for count in (asked.requests, 1))
     with open(asked.schedule, "rb") as file:
         whole = file.read()
     return whole, whole[: whole.index(b"\n") + 1]
@@ -60,7 +61,7 @@ def main():
     print(f"{events} events of {replicas} replicas, {sent} datagrams: {ours:.0f} events a second")
     if not asked.command:
         return 0
-    theirs = rate(asked.command, whole, one, runs=1)
+    theirs = rate(asked.command, whole, one, runs=3)
     print(f"the other program: {theirs:.0f} events a second, ratio {ours / theirs:.1f}")
     if run_once(asked.command, whole)[1] != transcript:
         print("the two outputs differ", file=sys.stderr)

@@ -1,9 +1,10 @@
 """Writes a schedule of requests: all four operations over some thousand clients and keys.
 
-    python3 bench/schedule.py COUNT [REPLICAS] > FILE
+    python3 bench/schedule.py COUNT [REPLICAS] [settles|deliveries] > FILE
 
 With more than one replica they come to each in turn, and after each request everything that is on its way is delivered,
-and what that makes the replicas send, too.
+and what that makes the replicas send, too. With a third word it is a schedule for `replay-mp`: replica 0 is elected, all
+requests come to it, and behind each its messages are delivered, by three settles or one by one.
 """
 
 import sys
@@ -59,6 +60,25 @@ def requests(count):
         yield f"{client} {numbers[client]} {operation(draws)}"
 
 
+def leader_lines(count, replicas, deliveries):
+    """The lines of a schedule for the store with a leader: what a request sends is delivered behind it."""
+    yield f"replicas {replicas}"
+    yield f"suspect 0 5 {','.join(map(str, range(replicas)))}"
+    yield "settle 6"
+    yield "settle 7"
+    # The election takes a message to each other replica and one back; a request takes one more round.
+    others = replicas - 1
+    sent = 2 * others
+    for turn, request in enumerate(requests(count)):
+        reading = 100 * (turn + 2)
+        yield f"request 0 {reading} {request}"
+        if deliveries == "settles":
+            yield from (f"settle {reading + later}" for later in (20, 40, 60))
+        else:
+            yield from (f"go {index} {reading + 20}" for index in range(sent, sent + 3 * others))
+        sent += 3 * others
+
+
 def lines(count, replicas):
     """The lines of a schedule of so many requests, with rising readings."""
     yield f"replicas {replicas}"
@@ -72,11 +92,12 @@ def lines(count, replicas):
         yield f"settle {reading + 60}"
 
 
-def schedule(count, replicas=1):
-    """The whole schedule of so many requests as bytes."""
-    return "".join(f"{line}\n" for line in lines(count, replicas)).encode()
+def schedule(count, replicas=1, deliveries=None):
+    """The whole schedule of so many requests as bytes; for a store with a leader where its deliveries are said."""
+    made = leader_lines(count, replicas, deliveries) if deliveries else lines(count, replicas)
+    return "".join(f"{line}\n" for line in made).encode()
 
 
 if __name__ == "__main__":
-    words = [int(word) for word in sys.argv[1:]]
+    words = [int(word) if word.isdigit() else word for word in sys.argv[1:]]
     sys.stdout.buffer.write(schedule(*words))
