@@ -4,5 +4,5 @@
 use std::process::ExitCode;
 
 fn main(rt: HostRuntime) -> ExitCode {
-    crsm_app::start(&rt)
+    crsm_start::start(&rt)
 }

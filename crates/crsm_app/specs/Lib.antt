@@ -6,4 +6,3 @@ pub mod Parts
 pub mod Did
 pub mod Exact
 pub mod Run
-pub mod Ports

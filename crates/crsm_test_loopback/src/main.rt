@@ -15,7 +15,7 @@ fn has_words<R: AllocGlobal + Env>(rt: &R) -> bool {
 
 fn main(rt: HostRuntime) -> ExitCode {
     if has_words(&rt) {
-        return crsm_app::start(&rt);
+        return crsm_start::start(&rt);
     }
     match crsm_test_processes::trial(&rt) {
         Ok(()) => ExitCode::SUCCESS,

@@ -2,11 +2,11 @@
 //! thing that an operator wants to know, and one why it ends.
 
 ghost use Rattle.std.specs.Prelude.{◌≡◌, IfOk};
-ghost use Rattle.crsm_app.specs.Ports.{IsNodePort, without};
+ghost use Rattle.crsm_start.specs.Ports.{IsNodePort, without};
 
 use crate::devices::{NoDevice, socket_at, status_over};
-use crate::status::Status;
 use crate::streams::stream_into;
+use crsm_app::Status;
 use crsm_base::NoMemory;
 use crsm_clock::SystemClock;
 use crsm_disk::FileDisk;

@@ -1,10 +1,9 @@
 //! The entry point: the words of the process, its devices and its exit status.
 
-use crate::command::plan;
 use crate::devices::{NoDevice, status_over_nothing, status_over_socket};
 use crate::replica::run_replica_of;
-use crate::status::Status;
 use crate::streams::stand_ins;
+use crsm_app::{Status, plan};
 use crsm_text_words::{DevicePlan, usage_text};
 use std::env::{self, Env};
 use std::fs::{File, Files};

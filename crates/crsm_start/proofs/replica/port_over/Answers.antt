@@ -2,8 +2,8 @@ use Rattle.std.proofs.Common.{◌∙◌, ℕ, List, subst}
 use Rattle.std.proofs.lemmas.Result.{IfOk-weaker}
 use Rattle.crsm_port_flow.specs.New.{IsNew as IsNewFlow}
 use Rattle.crsm_port_packets.specs.New.{IsNew as IsNewPackets}
-use Rattle.crsm_app.specs.Ports.{IsNodePort}
-use Rattle.crsm_app.proofs.replica.port_over.Goals as goal
+use Rattle.crsm_start.specs.Ports.{IsNodePort}
+use Rattle.crsm_start.proofs.replica.port_over.Goals as goal
 
 pub returns : goal.returns
 returns g c =

@@ -1,8 +1,7 @@
 //! Commands over the real streams and clock, and over a port and a disk.
 
-use crate::command::run;
-use crate::status::Status;
 use crate::streams::Stream;
+use crsm_app::{Status, run};
 use crsm_clock::SystemClock;
 use crsm_disk::{Disk, MemDisk, OpenError};
 use crsm_io::{StdSink, StdSource};
