@@ -1,4 +1,4 @@
-//! `ShortBytes`: a list of bytes that is kept without an allocation while it has at most 8.
+//! `ShortBytes`: a list of bytes that is kept without an allocation while it has at most 24.
 
 ghost use Rattle.std.specs.Prelude.{◌≡◌, ◌≤◌, [], ◌∷◌, ◌++◌, length, take, IfOk, OnOk, OnErr};
 
@@ -7,29 +7,39 @@ use std::alloc::Global;
 use std::fmt::{self, Debug, Formatter, Write};
 use std::marker::Model;
 
-/// Maximum length in bytes of a list that is kept in the value itself.
-const IN_PLACE: usize = 8;
+/// Maximum length in bytes of a list that is kept in the value itself: 24 bytes take the room of a vector, and most keys
+/// and values need no allocation of their own.
+const IN_PLACE: usize = 24;
+
+// Where the bytes are: the first `len` of an array, or a vector. A length of four bytes lets the array begin where the
+// vector would, so that either is moved by whole words.
+#[derive(Drop)]
+enum Held {
+    Near { len: u32, bytes: [u8; IN_PLACE] },
+    Far { bytes: Vec<u8> },
+}
 
 /// A list of bytes. Lists of up to `IN_PLACE` bytes are kept in the value, longer ones in a vector.
 #[derive(Drop)]
 pub(crate) struct ShortBytes {
-    // The list is the first `len` bytes of `near` followed by `far`; one of the two is empty.
-    near: [u8; IN_PLACE],
-    len: usize,
-    far: Vec<u8>,
+    held: Held,
+    // For the vector that a byte more may need; it takes no room.
+    alloc: Global,
 }
 
 impl Model for ShortBytes {
-    ghost use Rattle.std.specs.Prelude.{List, ℕ, [], ◌++◌, ◌≡◌, ◌≤◌, take, ◌⊎◌};
+    ghost use Rattle.std.specs.Prelude.{List, ℕ};
 
     ghost Value = { List ℕ };
 
-    ghost view = { λ b. take b.len b.near ++ b.far.items };
+    ghost use Rattle.crsm_base.specs.Short.{held_bytes, IsHeld};
 
-    ghost invariant = { λ b. (b.len ≤ 8) × ((b.len ≡ 0) ⊎ (b.far.items ≡ [])) };
+    ghost view = { λ b. held_bytes b.held };
+
+    ghost invariant = { λ b. IsHeld b.held };
 }
 
-/// Formats the bytes as a list, whichever field holds them.
+/// Formats the bytes as a list, wherever they are kept.
 impl Debug for ShortBytes {
     ghost use Rattle.std.specs.Fmt.{debug_list};
 
@@ -46,9 +56,10 @@ impl ShortBytes {
         ensures { result ≡ [] }
     {
         ShortBytes {
-            near: [0; IN_PLACE],
-            len: 0,
-            far: Vec::new(alloc),
+            held: Held::Far {
+                bytes: Vec::new(alloc),
+            },
+            alloc,
         }
     }
 
@@ -57,16 +68,13 @@ impl ShortBytes {
         ensures ok { OnOk result (self.new ≡ self.old ++ item ∷ []) }
         ensures err { OnErr result (self.new ≡ self.old) }
     {
-        if self.len > 0 {
-            self.far.extend_from_slice(&self.near[..self.len])?;
+        if let Held::Far { bytes } = &mut self.held {
+            bytes.push(item)?;
+            return Ok(());
         }
-        if self.far.push(item).is_err() {
-            if self.len > 0 {
-                self.far.clear();
-            }
-            return Err(NoMemory);
-        }
-        self.len = 0;
+        let mut far = Vec::from_slice(self.alloc, self.as_slice())?;
+        far.push(item)?;
+        self.held = Held::Far { bytes: far };
         Ok(())
     }
 
@@ -74,16 +82,21 @@ impl ShortBytes {
     pub(crate) fn from_slice(alloc: Global, bytes: &[u8]) -> Result<ShortBytes, NoMemory>
         ensures { IfOk result (λ made. made ≡ bytes.now) }
     {
-        let mut near = [0; IN_PLACE];
         if bytes.len() > IN_PLACE {
-            let far = Vec::from_slice(alloc, bytes)?;
-            return Ok(ShortBytes { near, len: 0, far });
+            let bytes = Vec::from_slice(alloc, bytes)?;
+            return Ok(ShortBytes {
+                held: Held::Far { bytes },
+                alloc,
+            });
         }
+        let mut near = [0; IN_PLACE];
         near[..bytes.len()].copy_from_slice(bytes);
         Ok(ShortBytes {
-            near,
-            len: bytes.len(),
-            far: Vec::new(alloc),
+            held: Held::Near {
+                len: bytes.len() as u32,
+                bytes: near,
+            },
+            alloc,
         })
     }
 
@@ -99,13 +112,15 @@ impl ShortBytes {
         if count > IN_PLACE || bytes.len() < IN_PLACE {
             return ShortBytes::from_slice(alloc, &bytes[..count]);
         }
-        // A copy of fixed length compiles to one load; bytes after `count` are not part of the list.
+        // A copy of fixed length compiles to a few loads; bytes after `count` are not part of the list.
         let mut near = [0; IN_PLACE];
         near.copy_from_slice(&bytes[..IN_PLACE]);
         Ok(ShortBytes {
-            near,
-            len: count,
-            far: Vec::new(alloc),
+            held: Held::Near {
+                len: count as u32,
+                bytes: near,
+            },
+            alloc,
         })
     }
 
@@ -113,10 +128,9 @@ impl ShortBytes {
     pub(crate) fn as_slice(&self) -> &[u8]
         ensures { result.now ≡ self.now }
     {
-        if self.len == 0 {
-            self.far.as_slice()
-        } else {
-            &self.near[..self.len]
+        match &self.held {
+            Held::Near { len, bytes } => &bytes[..*len as usize],
+            Held::Far { bytes } => bytes.as_slice(),
         }
     }
 
@@ -124,15 +138,15 @@ impl ShortBytes {
     pub(crate) fn copy(&self, alloc: Global) -> Result<ShortBytes, NoMemory>
         ensures { IfOk result (λ copy. copy ≡ self.now) }
     {
-        let far = if self.far.is_empty() {
-            Vec::new(alloc)
-        } else {
-            Vec::from_slice(alloc, self.far.as_slice())?
+        let held = match &self.held {
+            Held::Near { len, bytes } => Held::Near {
+                len: *len,
+                bytes: *bytes,
+            },
+            Held::Far { bytes } => Held::Far {
+                bytes: Vec::from_slice(alloc, bytes.as_slice())?,
+            },
         };
-        Ok(ShortBytes {
-            near: self.near,
-            len: self.len,
-            far,
-        })
+        Ok(ShortBytes { held, alloc })
     }
 }
