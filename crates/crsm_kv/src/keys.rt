@@ -1,11 +1,11 @@
 //! The key map of the store, and the effect of an operation on it.
 
-ghost use Rattle.std.specs.Prelude.{◌≡◌, ◌||◌, nat_lt, length, is_some, IfOk, OnErr, bytes_eq};
+ghost use Rattle.std.specs.Prelude.{◌≡◌, ◌⊎◌, ◌||◌, false, nat_lt, length, is_some, IfOk, IsOk, OnErr, bytes_eq};
 ghost use Rattle.std.specs.Option.{option_copied, option_eq};
 ghost use Rattle.crsm_base.specs.Limits.{most_keys};
 ghost use Rattle.crsm_base.specs.Store.{value_at, change_key, found, put_key, without_key, operate};
 ghost use Rattle.crsm_base.specs.declared.Op.{Op as OpOnPaper};
-ghost use Rattle.crsm_base.specs.declared.answer.Answer.{Answer as OnPaper};
+ghost use Rattle.crsm_kv.specs.Operations.{key_of, has_value};
 
 use crate::stored::StoredKey;
 use crsm_base::{Answer, Key, MAX_KEYS, NoMemory, Op, Val};
@@ -42,13 +42,6 @@ fn is_expected(current: Option<&Val>, expected: &Option<Val>) -> bool
     }
 }
 
-/// The answer to an operation, twice: one for the client, and one that is kept.
-#[derive(Drop)]
-pub struct Answered {
-    pub told: Answer,
-    pub kept: Answer,
-}
-
 fn copy_of(alloc: Global, value: Option<&Val>) -> Result<Option<Val>, NoMemory>
     ensures { IfOk result (λ copy. copy ≡ option_copied value.entry) }
 {
@@ -60,51 +53,42 @@ fn copy_of(alloc: Global, value: Option<&Val>) -> Result<Option<Val>, NoMemory>
 
 /// Returns the answer to a get of this value.
 #[tactic(auto, unfolding(crsm_base::specs::Store::found))]
-fn found(alloc: Global, value: Option<&Val>) -> Result<Answered, NoMemory>
-    ensures told { IfOk result (λ made. made.told ≡ found (option_copied value.entry)) }
-    ensures kept { IfOk result (λ made. made.kept ≡ made.told) }
+fn found(alloc: Global, value: Option<&Val>) -> Result<Answer, NoMemory>
+    ensures { IfOk result (λ told. told ≡ found (option_copied value.entry)) }
 {
     match value {
-        Some(value) => Ok(Answered {
-            told: Answer::Found(value.copy(alloc)?),
-            kept: Answer::Found(value.copy(alloc)?),
-        }),
-        None => Ok(Answered {
-            told: Answer::Missing,
-            kept: Answer::Missing,
-        }),
+        Some(value) => Ok(Answer::Found(value.copy(alloc)?)),
+        None => Ok(Answer::Missing),
     }
 }
 
-/// Returns the answer to a compare-and-set that found this value in place of the expected one.
-fn differs(alloc: Global, value: Option<&Val>) -> Result<Answered, NoMemory>
-    ensures told { IfOk result (λ made. made.told ≡ OnPaper.Differs (option_copied value.entry)) }
-    ensures kept { IfOk result (λ made. made.kept ≡ made.told) }
+/// Returns a copy of the answer. `NoMemory` if memory runs out, which can happen only to an answer with a value.
+pub fn second_copy(alloc: Global, answer: &Answer) -> Result<Answer, NoMemory>
+    ensures copy { IfOk result (λ copy. copy ≡ answer.now) }
+    ensures plain { has_value answer.now ≡ false → IsOk result }
 {
-    Ok(Answered {
-        told: Answer::Differs(copy_of(alloc, value)?),
-        kept: Answer::Differs(copy_of(alloc, value)?),
-    })
+    match answer {
+        Answer::Done => Ok(Answer::Done),
+        Answer::Missing => Ok(Answer::Missing),
+        Answer::NoRoom => Ok(Answer::NoRoom),
+        Answer::Stale(number) => Ok(Answer::Stale(*number)),
+        Answer::Found(value) => Ok(Answer::Found(value.copy(alloc)?)),
+        Answer::Differs(value) => Ok(Answer::Differs(copy_of(alloc, value.as_ref())?)),
+    }
 }
 
 /// Sets the key, unless it is new and the store is full. `NoMemory` if memory runs out; the keys are then unchanged.
 #[tactic(auto, using(crate::proofs::KeysLemmas::keys_rules), unfolding(crsm_base::specs::Store::put_key))]
-fn put(alloc: Global, keys: &mut Keys, key: StoredKey, value: &Val) -> Result<Answered, NoMemory>
-    ensures told { IfOk result (λ made. (keys.new.entries, made.told) ≡ put_key key value.now keys.old.entries) }
-    ensures kept { IfOk result (λ made. made.kept ≡ made.told) }
+fn put(alloc: Global, keys: &mut Keys, key: StoredKey, value: &Val) -> Result<Answer, NoMemory>
+    ensures told { IfOk result (λ told. (keys.new.entries, told) ≡ put_key key value.now keys.old.entries) }
+    ensures plain { IfOk result (λ told. has_value told ≡ false) }
     ensures err { OnErr result (keys.new.entries ≡ keys.old.entries) }
 {
     if !has_room(keys, &key) {
-        return Ok(Answered {
-            told: Answer::NoRoom,
-            kept: Answer::NoRoom,
-        });
+        return Ok(Answer::NoRoom);
     }
     keys.insert(key, value.copy(alloc)?)?;
-    Ok(Answered {
-        told: Answer::Done,
-        kept: Answer::Done,
-    })
+    Ok(Answer::Done)
 }
 
 /// Removes the key, and returns whether it existed.
@@ -118,20 +102,14 @@ fn remove(keys: &mut Keys, key: &StoredKey) -> bool
 
 /// Removes the key and returns the answer to that: `Missing` if it does not exist.
 #[tactic(auto, unfolding(crsm_base::specs::Store::operate))]
-fn delete(keys: &mut Keys, key: &StoredKey) -> Answered
-    ensures told { (keys.new.entries, result.told) ≡ operate keys.old.entries (OpOnPaper.Delete key.now) }
-    ensures kept { result.kept ≡ result.told }
+fn delete(keys: &mut Keys, key: StoredKey) -> Answer
+    ensures told { (keys.new.entries, result) ≡ operate keys.old.entries (OpOnPaper.Delete key) }
+    ensures plain { has_value result ≡ false }
 {
-    if remove(keys, key) {
-        Answered {
-            told: Answer::Done,
-            kept: Answer::Done,
-        }
+    if remove(keys, &key) {
+        Answer::Done
     } else {
-        Answered {
-            told: Answer::Missing,
-            kept: Answer::Missing,
-        }
+        Answer::Missing
     }
 }
 
@@ -143,29 +121,24 @@ fn change(
     keys: &mut Keys,
     key: StoredKey,
     new: &Option<Val>,
-) -> Result<Answered, NoMemory>
-    ensures told { IfOk result (λ made. (keys.new.entries, made.told) ≡ change_key key new.now keys.old.entries) }
-    ensures kept { IfOk result (λ made. made.kept ≡ made.told) }
+) -> Result<Answer, NoMemory>
+    ensures told { IfOk result (λ told. (keys.new.entries, told) ≡ change_key key new.now keys.old.entries) }
+    ensures plain { IfOk result (λ told. has_value told ≡ false) }
     ensures err { OnErr result (keys.new.entries ≡ keys.old.entries) }
 {
     match new {
         Some(value) => put(alloc, keys, key, value),
         None => {
             let _ = remove(keys, &key);
-            Ok(Answered {
-                told: Answer::Done,
-                kept: Answer::Done,
-            })
+            Ok(Answer::Done)
         }
     }
 }
 
 /// Returns the answer to a get of the key. `NoMemory` if memory runs out.
-fn get(alloc: Global, keys: &Keys, key: &Key) -> Result<Answered, NoMemory>
-    ensures told { IfOk result (λ made. made.told ≡ found (value_at key.now keys.now.entries)) }
-    ensures kept { IfOk result (λ made. made.kept ≡ made.told) }
+fn get(alloc: Global, keys: &Keys, key: StoredKey) -> Result<Answer, NoMemory>
+    ensures { IfOk result (λ told. told ≡ found (value_at key keys.now.entries)) }
 {
-    let key = StoredKey::copy_of(alloc, key)?;
     found(alloc, value_of(keys, &key))
 }
 
@@ -178,33 +151,43 @@ fn compare_and_set(
     key: StoredKey,
     expected: &Option<Val>,
     new: &Option<Val>,
-) -> Result<Answered, NoMemory>
-    ensures told { IfOk result (λ made. (keys.new.entries, made.told) ≡ operate keys.old.entries (OpOnPaper.Cas key expected.now new.now)) }
-    ensures kept { IfOk result (λ made. made.kept ≡ made.told) }
+) -> Result<Answer, NoMemory>
+    ensures told { IfOk result (λ told. (keys.new.entries, told) ≡ operate keys.old.entries (OpOnPaper.Cas key expected.now new.now)) }
+    ensures plain { IfOk result (λ told. (has_value told ≡ false) ⊎ (keys.new.entries ≡ keys.old.entries)) }
     ensures err { OnErr result (keys.new.entries ≡ keys.old.entries) }
 {
     let current = value_of(keys, &key);
     if !is_expected(current, expected) {
-        return differs(alloc, current);
+        return Ok(Answer::Differs(copy_of(alloc, current)?));
     }
     change(alloc, keys, key, new)
 }
 
-/// Executes the operation on the keys, and returns its answer. `NoMemory` if memory runs out; the keys are then
-/// unchanged.
-#[tactic(auto, unfolding(crsm_base::specs::Store::operate))]
-pub fn execute(alloc: Global, keys: &mut Keys, op: &Op) -> Result<Answered, NoMemory>
-    ensures told { IfOk result (λ made. (keys.new.entries, made.told) ≡ operate keys.old.entries op.now) }
-    ensures kept { IfOk result (λ made. made.kept ≡ made.told) }
-    ensures err { OnErr result (keys.new.entries ≡ keys.old.entries) }
+/// Returns the key of the operation.
+fn key_of(op: &Op) -> &Key
+    ensures { result.now ≡ key_of op.now }
 {
     match op {
-        Op::Get(key) => get(alloc, keys, key),
-        Op::Put(key, value) => put(alloc, keys, StoredKey::copy_of(alloc, key)?, value),
-        Op::Delete(key) => Ok(delete(keys, &StoredKey::copy_of(alloc, key)?)),
-        Op::Cas(key, expected, new) => {
-            let key = StoredKey::copy_of(alloc, key)?;
-            compare_and_set(alloc, keys, key, expected, new)
-        }
+        Op::Get(key) => key,
+        Op::Put(key, _) => key,
+        Op::Delete(key) => key,
+        Op::Cas(key, _, _) => key,
+    }
+}
+
+/// Executes the operation on the keys, and returns its answer, which has a value only if no key changed. `NoMemory` if
+/// memory runs out; the keys are then unchanged.
+#[tactic(auto, unfolding(crsm_base::specs::Store::operate))]
+pub fn execute(alloc: Global, keys: &mut Keys, op: &Op) -> Result<Answer, NoMemory>
+    ensures told { IfOk result (λ told. (keys.new.entries, told) ≡ operate keys.old.entries op.now) }
+    ensures plain { IfOk result (λ told. (has_value told ≡ false) ⊎ (keys.new.entries ≡ keys.old.entries)) }
+    ensures err { OnErr result (keys.new.entries ≡ keys.old.entries) }
+{
+    let key = StoredKey::copy_of(alloc, key_of(op))?;
+    match op {
+        Op::Get(_) => get(alloc, keys, key),
+        Op::Put(_, value) => put(alloc, keys, key, value),
+        Op::Delete(_) => Ok(delete(keys, key)),
+        Op::Cas(_, expected, new) => compare_and_set(alloc, keys, key, expected, new),
     }
 }

@@ -5,7 +5,7 @@ ghost use Rattle.crsm_base.specs.Store.{no_rows, apply, serve, client_row, done,
 ghost use Rattle.crsm_kv.specs.Clients.{IsPlaceOf};
 
 use crate::clients::{self, Clients, Kept};
-use crate::keys::{self, Answered, Keys};
+use crate::keys::{self, Keys};
 use crsm_base::{Answer, Command, MAX_CLIENTS, NoMemory};
 use indexmap::IndexMap;
 use std::alloc::Global;
@@ -68,12 +68,13 @@ impl Store {
         ensures done { IfOk result (λ answer. (self.new, answer) ≡ done self.old command.now (operate self.old.keys command.now.op)) }
         ensures err { OnErr result (self.new ≡ self.old) }
     {
-        // The client's row gets its room before a key changes, so that nothing has to be undone.
+        // The client's row gets its room before a key changes, and an answer whose copy takes memory changed no key: so
+        // nothing has to be undone.
         clients::reserve_for(&mut self.clients, place)?;
-        let Answered { told, kept } = keys::execute(self.alloc, &mut self.keys, &command.op)?;
+        let told = keys::execute(self.alloc, &mut self.keys, &command.op)?;
         let kept = Kept {
             number: command.number,
-            answer: kept,
+            answer: keys::second_copy(self.alloc, &told)?,
         };
         clients::keep(&mut self.clients, command.client, place, kept)?;
         Ok(told)
