@@ -10,7 +10,7 @@ use Rattle.std.specs.BTreeMap.Range.{IsLeBy, IsLtBy}
 use Rattle.std.proofs.lemmas.Bool.Decides.{nat_tests}
 use Rattle.std.proofs.lemmas.List.Elements.{filter-append}
 use Rattle.std.proofs.lemmas.List.{length-append, map-append}
-use Rattle.std.proofs.lemmas.Option.{slice_get_read}
+use Rattle.std.proofs.lemmas.Option.{slice_get_past, slice_get_read}
 use Rattle.crsm_mpspec.specs.Log.{from_slot}
 use Rattle.crsm_mpledger.specs.BySlot.{AreFrom, BeginsAt, numbered}
 use Rattle.crsm_mpledger.proofs.SlotLemmas.{Below, Same, Above, compared, below_cmp, above_cmp}
@@ -30,10 +30,14 @@ get-beyond a q [] es most = refl
 get-beyond a q (x ∷ xs) es most = rw (above_cmp q a (omega (arith, most))) (get-beyond (suc a) q xs es (omega (arith, most)))
 
 -- an item of a list that was lent
-pub lent-item : {X : Type 0} (xs : List X) (i : ℕ) (r : Option (Bor X)) → i < length xs → is_some r ≡ nat_lt i (length xs) → IfSome r (λ x. x.now ≡ slice_index_or xs i x.now)
+pub lent-item : {X : Type 0} (xs : List X) (i : ℕ) (r : Option (Bor X)) → is_some r ≡ nat_lt i (length xs) → IfSome r (λ x. x.now ≡ slice_index_or xs i x.now)
     → option_copied r ≡ slice_get xs i
-lent-item xs i None below some is = absurd (grind (arith, nat_tests, below, some))
-lent-item xs i (Some x) below some is = sym (slice_get_read xs (length xs) i x.now refl below is)
+lent-item xs i None some is =
+    let past : length xs ≤ i = grind (arith, nat_tests, some) in
+    sym (slice_get_past xs i past)
+lent-item xs i (Some x) some is =
+    let below : i < length xs = grind (arith, nat_tests, some) in
+    sym (slice_get_read xs (length xs) i x.now refl below is)
 
 -- ---- one value more
 

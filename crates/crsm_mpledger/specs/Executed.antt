@@ -1,5 +1,5 @@
 -- The executed slots in memory.
-use Rattle.std.specs.Prelude.{◌≡◌, List, [], ◌∷◌, ◌++◌, None, Some}
+use Rattle.std.specs.Prelude.{◌≡◌, ◌≤◌, List, [], ◌∷◌, ◌++◌, None, Some, drop, length}
 use Rattle.crsm_mpspec.specs.Types.{Value}
 use Rattle.crsm_mpspec.specs.Values.{answer_after, rows_after}
 use Rattle.crsm_mpledger.specs.declared.executions.Execution.{Execution}
@@ -19,10 +19,12 @@ executions_behind done (v ∷ vs) = execution_after done v ∷ executions_behind
 unfoldable pub executions_of : List Value → List Execution
 executions_of values = executions_behind [] values
 
--- these values were executed
+-- these values were executed, and the executions of the first slots are forgotten
 pub record ExecutionsStand (executions : Executions) (values : List Value) : Type 0 where
   pub store : executions.store ≡ rows_after values
-  pub slots : executions.slots.items ≡ executions_of values
+  pub count : executions.count ≡ length values
+  pub kept : executions.first ≤ length values
+  pub slots : executions.slots.items ≡ drop executions.first (executions_of values)
 
 -- for the values that were executed
 abbrev pub WhereExecuted : Executions → (List Value → Type 0) → Type 0

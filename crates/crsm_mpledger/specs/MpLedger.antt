@@ -1,5 +1,5 @@
 -- What a ledger stands for.
-use Rattle.std.specs.Prelude.{◌≡◌, ℕ, ◌<◌, List, length}
+use Rattle.std.specs.Prelude.{◌≡◌, ℕ, ◌<◌, List}
 use Rattle.crsm_spec.specs.Clock.{u64_max}
 use Rattle.crsm_mpspec.specs.declared.rec.MpRec.{MpRec}
 use Rattle.crsm_mpspec.specs.Log.{Log, by_slot, promised, accepts, choices, executed, boots}
@@ -18,9 +18,9 @@ pub record MpLedgerStands (ledger : MpLedger) (log : Log) : Type 0 where
   pub chosen : SlotsStand ledger.chosen (by_slot (choices log))
   pub executed : ExecutionsStand ledger.executions (executed log)
 
--- how many slots it has executed
-abbrev pub executed_in : MpLedger → ℕ
-executed_in ledger = length ledger.executions.slots.items
+-- the first slot whose execution it keeps
+abbrev pub first_kept : MpLedger → ℕ
+first_kept ledger = ledger.executions.first
 
 -- one boot more can be counted
 abbrev pub MayBoot : MpLedger → Type 0

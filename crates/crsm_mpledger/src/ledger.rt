@@ -5,7 +5,7 @@ ghost use Rattle.crsm_mpspec.specs.declared.rec.MpRec.{MpRec as Record};
 ghost use Rattle.crsm_mpspec.specs.Log.{Log, by_slot, choices, executed, run_from};
 ghost use Rattle.crsm_mpledger.specs.BySlot.{SlotsStand};
 ghost use Rattle.crsm_mpledger.specs.Executed.{ExecutionsStand};
-ghost use Rattle.crsm_mpledger.specs.MpLedger.{CanFollow, MayBoot, MpLedgerStands, WhereLedger};
+ghost use Rattle.crsm_mpledger.specs.MpLedger.{CanFollow, MayBoot, MpLedgerStands, WhereLedger, first_kept};
 ghost use Rattle.crsm_mpledger.specs.Sound.{IsSound, MayFollow};
 
 use crate::by_slot::BySlot;
@@ -19,14 +19,15 @@ fn execute_known(
     chosen: &BySlot<Option<SharedCommand>>,
     executions: &mut Executions,
 ) -> Result<(), NoMemory>
-    ensures { OnOk result ((log : Log) → IsSound log → SlotsStand chosen.now (by_slot (choices log)) → (done : ℕ) → length (run_from done 0 log) ≡ done →
+    ensures stands { OnOk result ((log : Log) → IsSound log → SlotsStand chosen.now (by_slot (choices log)) → (done : ℕ) → length (run_from done 0 log) ≡ done →
         ExecutionsStand executions.old (run_from done 0 log) → ExecutionsStand executions.new (executed log)) }
+    ensures first { OnOk result (executions.new.first ≡ executions.old.first) }
 {
     for slot in executions.len()..u64::MAX {
         let Some(value) = chosen.get(slot) else {
             return Ok(());
         };
-        executions.execute(value)?;
+        executions.execute(slot, value)?;
     }
     Ok(())
 }
@@ -60,6 +61,24 @@ impl MpLedger {
         })
     }
 
+    /// Forgets the executions of all executed slots.
+    pub fn forget_executions(&mut self)
+        ensures stands { WhereLedger self.old (λ log. MpLedgerStands self.new log) }
+        ensures all { WhereLedger self.old (λ log. first_kept self.new ≡ length (executed log)) }
+    {
+        self.executions.forget();
+    }
+
+    /// Executes all slots once more, and returns their executions. `NoMemory` if memory runs out.
+    pub(crate) fn execute_again(&self) -> Result<Executions, NoMemory>
+        ensures stands { IfOk result (λ all. WhereLedger self.now (λ log. ExecutionsStand all (executed log))) }
+        ensures first { IfOk result (λ all. all.first ≡ 0) }
+    {
+        let mut all = Executions::new(self.alloc)?;
+        execute_known(&self.chosen, &mut all)?;
+        Ok(all)
+    }
+
     /// Counts one more boot, of which there must be fewer than 2^64 - 1.
     pub fn boot(&mut self)
         requires { MayBoot self.old }
@@ -75,7 +94,8 @@ impl MpLedger {
         ballot: Ballot,
         value: Option<SharedCommand>,
     ) -> Result<(), NoMemory>
-        ensures { OnOk result (WhereLedger self.old (λ log. MayFollow log (Record.Accept slot ballot value) → MpLedgerStands self.new (Record.Accept slot ballot value ∷ log))) }
+        ensures stands { OnOk result (WhereLedger self.old (λ log. MayFollow log (Record.Accept slot ballot value) → MpLedgerStands self.new (Record.Accept slot ballot value ∷ log))) }
+        ensures kept { OnOk result (first_kept self.new ≡ first_kept self.old) }
     {
         self.accepted.insert(slot, (ballot, value))?;
         self.promised = ballot;
@@ -84,7 +104,8 @@ impl MpLedger {
 
     /// Records the chosen value of a slot, and executes it and its successors once all before it are executed.
     fn choose(&mut self, slot: u64, value: Option<SharedCommand>) -> Result<(), NoMemory>
-        ensures { OnOk result (WhereLedger self.old (λ log. MayFollow log (Record.Choose slot value) → MpLedgerStands self.new (Record.Choose slot value ∷ log))) }
+        ensures stands { OnOk result (WhereLedger self.old (λ log. MayFollow log (Record.Choose slot value) → MpLedgerStands self.new (Record.Choose slot value ∷ log))) }
+        ensures kept { OnOk result (first_kept self.new ≡ first_kept self.old) }
     {
         self.chosen.insert(slot, value)?;
         execute_known(&self.chosen, &mut self.executions)?;
@@ -94,11 +115,12 @@ impl MpLedger {
     /// Applies a record. `NoMemory` if memory runs out; the ledger is then spent.
     pub fn follow(&mut self, rec: &MpRec) -> Result<(), NoMemory>
         requires { CanFollow self.old rec.now }
-        ensures { OnOk result (WhereLedger self.old (λ log. MayFollow log rec.now → MpLedgerStands self.new (rec.now ∷ log))) }
+        ensures stands { OnOk result (WhereLedger self.old (λ log. MayFollow log rec.now → MpLedgerStands self.new (rec.now ∷ log))) }
+        ensures kept { OnOk result (first_kept self.new ≡ first_kept self.old) }
     {
         match rec {
             MpRec::Boot => {
-                self.boot();
+                self.boots += 1;
                 Ok(())
             }
             MpRec::Promise { ballot } => {

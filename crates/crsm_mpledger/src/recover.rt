@@ -25,6 +25,7 @@ impl MpLedger {
                 unreachable!();
             };
             ledger.follow_body(alloc, body)?;
+            ledger.forget_executions();
         }
         Ok(ledger)
     }

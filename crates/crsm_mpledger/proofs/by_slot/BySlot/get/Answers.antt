@@ -1,4 +1,4 @@
-use Rattle.std.proofs.Common.{rules, ◌≡◌, ◌<◌, ◌≤◌, length, ◌∙◌, ap, sym, subst, arith}
+use Rattle.std.proofs.Common.{rules, ◌≡◌, ◌<◌, ◌≤◌, length, ◌∙◌, ap, sym, arith}
 use Rattle.std.specs.Prelude.{slice_get}
 use Rattle.std.specs.Option.{option_copied}
 use Rattle.std.specs.Ordering.{nat_cmp}
@@ -14,7 +14,7 @@ returns-then-slot-len g c entries s =
     let same : c.deref.result.now ≡ xs = search rules in
     let below : slot < length xs = search rules in
     let is : option_copied c.get.result ≡ slice_get xs slot
-    = lent-item c.deref.result.now slot c.get.result (subst (λ ys. slot < length ys) (sym same) below) c.get.ensures.lookup.0 c.get.ensures.lookup.1 ∙ ap (λ ys. slice_get ys slot) same in
+    = lent-item c.deref.result.now slot c.get.result c.get.ensures.lookup.0 c.get.ensures.lookup.1 ∙ ap (λ ys. slice_get ys slot) same in
     is ∙ sym (get-listed 0 slot slot xs c.args.self.now.beyond.entries (omega arith) below)
     ∙ ap (λ es. lookup (is_at (nat_cmp slot)) es) s.is
 

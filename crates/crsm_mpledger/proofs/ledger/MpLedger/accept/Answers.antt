@@ -4,9 +4,9 @@ use Rattle.crsm_mpspec.specs.Log.{by_slot, boots, is_boot, promised, accepts, ch
 use Rattle.crsm_mpledger.proofs.LedgerLemmas.{stays}
 use Rattle.crsm_mpledger.proofs.ledger.MpLedger.accept.Goals as goal
 
-pub returns : goal.returns
+pub returns-clause-stands : goal.returns-clause-stands
 unfolding by_slot boots is_boot promised accepts choices
-returns c log s may = record {
+returns-clause-stands c log s may = record {
   sound = (may, s.sound);
   boots = s.boots;
   promised = refl;

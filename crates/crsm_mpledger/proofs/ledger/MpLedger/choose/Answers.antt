@@ -5,9 +5,9 @@ use Rattle.crsm_mpledger.specs.Executed.{ExecutionsStand}
 use Rattle.crsm_mpledger.proofs.RunLemmas.{run-grown}
 use Rattle.crsm_mpledger.proofs.ledger.MpLedger.choose.Goals as goal
 
-pub returns : goal.returns
+pub returns-clause-stands : goal.returns-clause-stands
 unfolding by_slot boots is_boot promised accepts choices
-returns c log s may =
+returns-clause-stands c log s may =
     let rec = MpRec.Choose c.args.slot c.args.value in
     let entries = c.in_ok-insert.ensures (by_slot (choices log)) s.chosen in
     let run = run-grown c.args.slot c.args.value log may.2 in
@@ -17,6 +17,6 @@ returns c log s may =
       promised = s.promised;
       accepted = s.accepted;
       chosen = entries;
-      executed = c.in_ok-execute_known.ensures (rec ∷ log) (may, s.sound) entries (length (executed log)) (ap length run)
+      executed = c.in_ok-execute_known.ensures.stands (rec ∷ log) (may, s.sound) entries (length (executed log)) (ap length run)
           (subst (λ vs. ExecutionsStand c.args.self.now.executions vs) (sym run) s.executed);
     }

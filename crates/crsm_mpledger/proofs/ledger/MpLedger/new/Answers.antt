@@ -11,5 +11,5 @@ returns c = record {
   promised = refl;
   accepted = c.new.ensures;
   chosen = c.new-2.ensures;
-  executed = c.in_ok-new.ensures;
+  executed = c.in_ok-new.ensures.stands;
 }

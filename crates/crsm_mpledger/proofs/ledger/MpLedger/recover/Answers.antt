@@ -5,13 +5,14 @@ use Rattle.crsm_mpledger.proofs.BootLemmas.{boots_bodies, drop-get, sound_bodies
 use Rattle.crsm_mpledger.proofs.ledger.MpLedger.recover.Goals as goal
 
 pub loop-index-preserved : goal.loop-index-preserved
-loop-index-preserved c log are sound =
+loop-index-preserved c whole are sound =
     let bodies = c.args.bodies.now in
     let k = c.loop-index.index in
-    let i = c.loop-index.invariant log are sound in
-    let more = subst (λ bs. AreBodies i.0 bs log) (drop-get bodies k c.in-Some.body.now c.in-Some.ensures) i.2 in
-    let before = sound_bodies (with_records i.0 more.0) (drop (k + 1) bodies) log more.2 sound in
-    (with_records i.0 more.0, c.in_ok-follow_body.ensures i.0 i.1 more.0 more.1 before, more.2)
+    let i = c.loop-index.invariant whole are sound in
+    let more = subst (λ bs. AreBodies i.0 bs whole) (drop-get bodies k c.in-Some.body.now c.in-Some.ensures) i.2 in
+    let before = sound_bodies (with_records i.0 more.0) (drop (k + 1) bodies) whole more.2 sound in
+    let log = with_records i.0 more.0 in
+    (log, c.forget_executions.ensures.stands log (c.in_ok-follow_body.ensures i.0 i.1 more.0 more.1 before), more.2)
 
 -- the next body has records that follow
 pub follow_body-requires : goal.follow_body-requires
