@@ -67,6 +67,9 @@ told-next lines me f k vs v most e =
 pub one_some : {X : Type 0} (x y : X) → Some x ≡ Some y → x ≡ y
 one_some x y e = cc
 
+pub none_some : {X : Type 0} (x : X) → None ≡ Some x → ⊥
+none_some x e = cc
+
 -- the line of a noop
 pub line-noop : (me slot : ℕ) (done : List Value) (v : Value) → slot ≡ length done → Execution.Noop ≡ execution_after done v → MpLine.ExecNoop me slot ≡ exec_line me done v
 unfolding exec_line execution_after

@@ -11,7 +11,7 @@ ghost use Rattle.crsm_mpspec.specs.Types.{Value};
 ghost use Rattle.crsm_mpspec.specs.Records.{FitsRec};
 ghost use Rattle.crsm_mpspec.specs.declared.line.MpLine.{MpLine as Line};
 ghost use Rattle.crsm_mpspec.specs.declared.rec.MpRec.{MpRec as Record};
-ghost use Rattle.crsm_mpledger.specs.MpLedger.{CanFollow, MpLedgerStands, WhereLedger};
+ghost use Rattle.crsm_mpledger.specs.MpLedger.{CanFollow, MpLedgerStands, WhereLedger, first_kept};
 ghost use Rattle.crsm_mpledger.specs.Executed.{execution_after};
 ghost use Rattle.crsm_mpledger.specs.Sound.{MayFollow};
 ghost use Rattle.crsm_mpreplica.specs.Fitting.{FitsAccept, FitsChoice};
@@ -35,6 +35,7 @@ fn keep(
 ) -> Result<(), NoMemory>
     requires { CanFollow ledger.old rec }
     ensures ledger { OnOk result (WhereLedger ledger.old (λ log. MayFollow log rec → MpLedgerStands ledger.new (rec ∷ log))) }
+    ensures kept { OnOk result (first_kept ledger.new ≡ first_kept ledger.old) }
     ensures made { OnOk result ((o : Outcome) → MadeStands made.old o → FitsRec rec → MadeStands made.new (record o { batch = o.batch ++ rec ∷ []; lines = o.lines ++ line ∷ [] })) }
 {
     made.tell(line)?;
@@ -161,13 +162,14 @@ fn tell_executed(
     made: &mut StepOutput,
     first: u64,
 ) -> Result<(), NoMemory>
-    ensures { OnOk result ((log : Log) (o : Outcome) → MpLedgerStands ledger.now log → first ≤ length (executed log) → MadeStands made.old o →
+    ensures { OnOk result ((log : Log) (o : Outcome) → MpLedgerStands ledger.now log → first_kept ledger.now ≤ first → first ≤ length (executed log) → MadeStands made.old o →
         MadeStands made.new (record o { lines = o.lines ++ exec_lines me (take first (executed log)) (drop first (executed log)) })) }
 {
     executions_are_by_slot();
     for slot in first..ledger.executed_len() {
         let Some(execution) = ledger.execution(slot) else {
-            unreachable!();
+            // Those of the step itself are not forgotten.
+            return Ok(());
         };
         let line = exec_line(alloc, me, slot, execution)?;
         made.tell(line)?;

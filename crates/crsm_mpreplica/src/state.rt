@@ -101,5 +101,21 @@ impl MpReplica {
         ensures none { WhereStands self.old (λ x. MpReplicaStands self.new (drafts.begun x.replica)) }
     {
         self.made.move_to(out);
+        self.forget_executions();
+    }
+
+    /// Forgets the executions, unless the replica leads, or asks to lead, from a slot on that may be executed: its
+    /// clients then get the answers of executed slots.
+    fn forget_executions(&mut self)
+        ensures { WhereStands self.old (λ x. MpReplicaStands self.new x) }
+    {
+        let is_behind = match &self.note {
+            Note::Idle => false,
+            Note::Asking(_) => true,
+            Note::Leading(leading) => leading.next < self.ledger.executed_len(),
+        };
+        if !is_behind {
+            self.ledger.forget_executions();
+        }
     }
 }

@@ -1,5 +1,5 @@
 use Rattle.std.proofs.Common.{◌∙◌, sym}
-use Rattle.crsm_mpreplica.proofs.ExecLemmas.{line-applied, line-noop}
+use Rattle.crsm_mpreplica.proofs.ExecLemmas.{line-noop}
 use Rattle.crsm_mpreplica.proofs.records.exec_line.Goals as goal
 
 pub returns-in-Noop : goal.returns-in-Noop

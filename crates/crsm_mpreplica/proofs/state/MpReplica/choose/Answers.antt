@@ -1,4 +1,4 @@
-use Rattle.std.proofs.Common.{◌∙◌, ◌<◌, ◌^◌, ◌∷◌, ◌++◌, [], sym, subst, arith}
+use Rattle.std.proofs.Common.{◌∙◌, ◌<◌, ◌≤◌, ◌^◌, ◌∷◌, ◌++◌, [], sym, subst, arith}
 use Rattle.crsm_base.specs.Spelling.{FitsCommand, FitsOption}
 use Rattle.crsm_spec.specs.Choice.{when◌then◌otherwise◌}
 use Rattle.crsm_mpspec.specs.declared.line.MpLine.{MpLine}
@@ -7,6 +7,7 @@ use Rattle.crsm_mpspec.specs.Draft.{keep, keep_as, line_of}
 use Rattle.crsm_mpspec.specs.Deciding.{choose}
 use Rattle.crsm_mpspec.specs.Log.{executed}
 use Rattle.crsm_mpspec.specs.Replica.{note_after}
+use Rattle.crsm_mpledger.specs.MpLedger.{first_kept}
 use Rattle.crsm_mpreplica.specs.Made.{MadeStands, outcome_of}
 use Rattle.crsm_mpreplica.proofs.ChooseLemmas.{prefix-len, choose-tells}
 use Rattle.crsm_mpreplica.proofs.state.MpReplica.choose.Goals as goal
@@ -27,10 +28,12 @@ returns c x s fits =
     let spelt = subst (FitsOption FitsCommand) (sym c.in_ok-value.ensures) fits.1 in
     let below : slot < 2 ^ 64 = omega (arith, fits.0) in
     let follows = c.in_ok-keep.ensures.ledger log s.ledger (fits.0, spelt, unchosen) in
+    let old = s.ledger.executed.kept in
+    let kept : first_kept c.keep.new.ledger ≤ c.executed_len-before.result = omega (arith, c.in_ok-keep.ensures.kept, before, old) in
     let made =
     c.in_ok-tell_executed.ensures (MpRec.Choose slot w ∷ log)
     (record (outcome_of x) { batch = x.batch ++ MpRec.Choose slot w ∷ []; lines = x.lines ++ MpLine.Choose c.args.self.now.me slot ∷ [] })
-    follows (omega (arith, before, prefix-len (executed log) (executed (MpRec.Choose slot w ∷ log)) grows)) (c.in_ok-keep.ensures.made (outcome_of x) s.made (below, spelt)) in
+    follows kept (omega (arith, before, prefix-len (executed log) (executed (MpRec.Choose slot w ∷ log)) grows)) (c.in_ok-keep.ensures.made (outcome_of x) s.made (below, spelt)) in
     rw (unchosen, ← c.in_ok-value.ensures)
     (record {
       me = s.me;

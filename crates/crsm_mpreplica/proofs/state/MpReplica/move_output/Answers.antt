@@ -8,4 +8,5 @@ returns-clause-out c x s = c.move_to.ensures.out (outcome_of x) s.made
 pub returns-clause-none : goal.returns-clause-none
 unfolding begun
 returns-clause-none c x s =
-    record { me = s.me; n = s.n; ledger = s.ledger; note = s.note; waiting = s.waiting; made = c.move_to.ensures.none (outcome_of x) s.made }
+    c.forget_executions.ensures (begun x.replica)
+    (record { me = s.me; n = s.n; ledger = s.ledger; note = s.note; waiting = s.waiting; made = c.move_to.ensures.none (outcome_of x) s.made })
