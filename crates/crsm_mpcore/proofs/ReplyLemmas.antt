@@ -1,8 +1,8 @@
 -- Replies, one waiting client after another, and equal commands.
-use Rattle.std.proofs.Common.{◌≡◌, ℕ, zero, suc, ◌+◌, ◌≤◌, true, false, List, [], ◌∷◌, ◌++◌, Some, None, length, refl, ap, ap₂, sym, subst, ◌∙◌, append_assoc, arith}
+use Rattle.std.proofs.Common.{◌≡◌, ℕ, zero, suc, ◌+◌, ◌≤◌, true, false, List, [], ◌∷◌, ◌++◌, Some, None, length, refl, ap, ap₂, sym, ◌∙◌, append_assoc, arith}
 use Rattle.std.specs.Prelude.{◌==◌, ◌&&◌, Bool, Option, bytes_eq, slice_get, take}
 use Rattle.std.specs.List.{AllByRecursion}
-use Rattle.std.specs.Option.{option_eq}
+use Rattle.std.specs.Option.{option_eq, option_map}
 use Rattle.std.proofs.lemmas.Bool.{and_parts, eqb-true}
 use Rattle.std.proofs.lemmas.Slice.Eq.{bytes_eq-Decides}
 use Rattle.crsm_fact_log.proofs.Lists.{append-none}
@@ -14,8 +14,6 @@ use Rattle.crsm_mpspec.specs.Log.{executed}
 use Rattle.crsm_mpspec.specs.Replica.{Waiting}
 use Rattle.crsm_mpspec.specs.Step.{answer, answer_each, replies, reply_line}
 use Rattle.crsm_mpspec.specs.Values.{answer_after, command_eq, is_command, op_eq}
-use Rattle.crsm_mpledger.specs.declared.executions.Execution.{Execution}
-use Rattle.crsm_mpledger.specs.Executed.{execution_after}
 use Rattle.crsm_mpreplica.specs.State.{MpReplicaStands, NoneDue, waiting_of, with_waiting}
 use Rattle.crsm_mpreplica.specs.declared.state.MpReplica.{MpReplica}
 
@@ -100,22 +98,9 @@ one_some x y e = cc
 pub none_some : {X : Type 0} (x : X) → None ≡ Some x → ⊥
 none_some x e = cc
 
--- the execution of a value that is a command has the answer to it
-pub applied-is : (c : Command) (done : List Value) (v : Value) (client number : ℕ) (a : Answer) → is_command c v ≡ true → Some (Execution.Applied client number a) ≡ Some (execution_after done v)
-    → a ≡ answer_after done c
-unfolding execution_after
-applied-is c done v client number a same e = of_command (subst (λ (w : Value). Some (Execution.Applied client number a) ≡ Some (execution_after done w)) (command-is c v same) e)
-  where
-    of_command : Some (Execution.Applied client number a) ≡ Some (Execution.Applied c.client c.number (answer_after done c)) → a ≡ answer_after done c
-    of_command f = cc
-
--- it is not that of a noop
-pub noop-is-none : (c : Command) (done : List Value) (v : Value) → is_command c v ≡ true → Some Execution.Noop ≡ Some (execution_after done v) → ⊥
-unfolding execution_after
-noop-is-none c done v same e = of_command (subst (λ (w : Value). Some Execution.Noop ≡ Some (execution_after done w)) (command-is c v same) e)
-  where
-    of_command : Some Execution.Noop ≡ Some (Execution.Applied c.client c.number (answer_after done c)) → ⊥
-    of_command f = cc
+-- the answer at a value that is a command is the answer to it
+pub answer-is : (c : Command) (done : List Value) (v : Value) → is_command c v ≡ true → option_map (answer_after done) v ≡ Some (answer_after done c)
+answer-is c done v same = ap (option_map (answer_after done)) (command-is c v same)
 
 -- ---- the line of a reply
 

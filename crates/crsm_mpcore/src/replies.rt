@@ -11,7 +11,6 @@ ghost use Rattle.crsm_mpreplica.specs.State.{Makes, MpReplicaStands, waiting_of}
 
 use crate::same::is_command;
 use crsm_base::{Answer, Command, NoMemory};
-use crsm_mpledger::{Execution, executions_are_by_slot};
 use crsm_mpreplica::MpReplica;
 use crsm_mpspec::MpLine;
 
@@ -58,16 +57,12 @@ fn answer_to(state: &MpReplica, slot: u64, command: &Command) -> Result<Option<A
     ensures { IfOk result (λ answer. (x : Draft) (v : Value) → MpReplicaStands state.now x → slice_get (executed x.replica.log) slot ≡ Some v →
         answer ≡ (when values.is_command command.now v then Some (values.answer_after (take slot (executed x.replica.log)) command.now) otherwise None)) }
 {
-    executions_are_by_slot();
     let Some(value) = state.ledger().executed(slot) else {
         return Ok(None);
     };
     if !is_command(command, value) {
         return Ok(None);
     }
-    match state.ledger().execution(slot) {
-        Some(Execution::Applied { answer, .. }) => Ok(Some(answer.copy(state.alloc())?)),
-        Some(Execution::Noop) => Ok(None),
-        None => Ok(None),
-    }
+    let answer = state.ledger().answer(slot)?;
+    Ok(answer)
 }
