@@ -14,6 +14,7 @@ use crate::network::MpNetwork;
 use crate::site::MpStep;
 use crsm_base::NoMemory;
 use crsm_mpspec::{MpLine, MpLines, MpSend, MpSends};
+use std::mem;
 
 /// Records a message from replica `k`, and appends its line.
 fn send_one(
@@ -70,11 +71,15 @@ fn send_all(
     Ok(())
 }
 
-/// Moves lines to the end of others. Often there are none.
+/// Moves lines to the end of others. Often there are none of the ones or of the others.
 fn move_lines(from: &mut MpLines, lines: &mut MpLines) -> Result<(), NoMemory>
     ensures { OnOk result (lines.new ≡ lines.old ++ from.old) }
 {
     if from.as_slice().is_empty() {
+        return Ok(());
+    }
+    if lines.as_slice().is_empty() {
+        mem::swap(from, lines);
         return Ok(());
     }
     lines.append(from)?;
