@@ -255,11 +255,13 @@ marked-next done es is k place i e all at there next =
 
 -- ---- the first entry above a stamp
 
+same_parts : (a b : Stamp) → a.time ≡ b.time → a.origin ≡ b.origin → a ≡ b
+same_parts a b time origin = ap (λ t. record { time = t; origin = a.origin }) time ∙ ap (λ o. record { time = b.time; origin = o }) origin
+
 pub stamp_eq-same : (a b : Stamp) → stamp_eq a b ≡ true → a ≡ b
 unfolding stamp_eq
 stamp_eq-same a b same =
-    let parts : (a.time ≡ b.time) × (a.origin ≡ b.origin) = grind (arith, nat_tests) in
-    ap (λ t. record { time = t; origin = a.origin }) parts.0 ∙ ap (λ o. record { time = b.time; origin = o }) parts.1
+    let parts : (a.time ≡ b.time) × (a.origin ≡ b.origin) = grind (arith, nat_tests) in same_parts a b parts.0 parts.1
 
 stamp_eq-refl : (a : Stamp) → stamp_eq a a ≡ true
 unfolding stamp_eq

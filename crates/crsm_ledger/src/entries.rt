@@ -53,7 +53,6 @@ impl Ledger {
     {
         let count = decision.tail.as_slice().len() as u64;
         let members = decision.members.copy(self.alloc)?;
-        let known = decision.copy(self.alloc)?;
         let line = Line::Decide {
             replica: self.me,
             epoch: decision.epoch,
@@ -62,6 +61,7 @@ impl Ledger {
             count,
         };
         let lines = one_line(self.alloc, line)?;
+        let known = decision.copy(self.alloc)?;
         self.follow_decide(known);
         Ok(lines)
     }

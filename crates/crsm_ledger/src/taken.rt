@@ -44,18 +44,18 @@ impl Ledger {
             return Ok(None);
         };
         let behind = match tag {
-            1 => self.take_boot(text),
-            2 => self.take_prepare(text)?,
-            3 => self.take_commit(text)?,
-            4 => self.take_adopt(tail, text)?,
-            5 => self.take_suspend(text),
-            6 => self.take_promise(text),
+            1 => Ok(self.take_boot(text)),
+            2 => self.take_prepare(text),
+            3 => self.take_commit(text),
+            4 => self.take_adopt(tail, text),
+            5 => Ok(self.take_suspend(text)),
+            6 => Ok(self.take_promise(text)),
             7 => return self.take_accept(accepted, tail, text),
             8 => return Ok(self.take_decide(accepted, text)),
-            9 => self.take_enter(text),
-            _ => None,
+            9 => Ok(self.take_enter(text)),
+            _ => Ok(None),
         };
-        match behind {
+        match behind? {
             Some(rest) => Ok(Some(Remaining {
                 rest,
                 accepted,
