@@ -62,7 +62,7 @@ impl Retry {
 }
 
 /// The stage of a coordinator.
-#[derive(Clone, Copy, Debug, PartialEq, Eq)]
+#[derive(Clone, Copy)]
 pub enum Stage {
     Idle,
     Collecting,
