@@ -21,8 +21,7 @@ impl ReplicaState {
         ensures { Makes (count_vote stamp k) self.old result self.new }
     {
         let last = self.ledger.last_stamp();
-        self.epoch_state.count_vote(stamp, k, last)?;
-        Ok(())
+        self.epoch_state.count_vote(stamp, k, last)
     }
 
     #[tactic(auto, unfolding(crate::specs::Replica::ReplicaStands))]
@@ -32,8 +31,7 @@ impl ReplicaState {
         requires spelt { FitsDatagram datagram }
         ensures { Makes (send k datagram) self.old result self.new }
     {
-        self.output.send(k, datagram)?;
-        Ok(())
+        self.output.send(k, datagram)
     }
 
     #[tactic(auto, unfolding(crate::specs::Replica::ReplicaStands))]
@@ -53,8 +51,7 @@ impl ReplicaState {
                 number: command.number,
                 code: code_of(why),
             },
-        })?;
-        Ok(())
+        })
     }
 
     #[tactic(auto, unfolding(crate::specs::Replica::ReplicaStands))]
@@ -79,8 +76,7 @@ impl ReplicaState {
             epoch,
             count,
             bytes,
-        })?;
-        Ok(())
+        })
     }
 }
 

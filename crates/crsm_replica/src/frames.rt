@@ -52,8 +52,7 @@ fn send_frame(
         seq,
         payload,
     };
-    output.send(k, datagram)?;
-    Ok(())
+    output.send(k, datagram)
 }
 
 /// Retransmits frames to replica `to`. `NoMemory` if memory runs out.

@@ -40,8 +40,7 @@ impl ReplicaState {
             payload,
         )?;
         self.epoch_state
-            .push_at(time, number, &self.ledger.known().members, payload)?;
-        Ok(())
+            .push_at(time, number, &self.ledger.known().members, payload)
     }
 
     #[tactic(auto, unfolding(crate::specs::Replica::ReplicaStands))]
@@ -72,8 +71,7 @@ impl ReplicaState {
                 epoch,
                 next,
             },
-        )?;
-        Ok(())
+        )
     }
 
     #[tactic(auto, unfolding(crate::specs::Replica::ReplicaStands))]
@@ -92,8 +90,7 @@ impl ReplicaState {
         requires { FitsStamp stamp }
         ensures { Makes (owe stamp) self.old result self.new }
     {
-        self.epoch_state.owe(stamp)?;
-        Ok(())
+        self.epoch_state.owe(stamp)
     }
 
     #[tactic(auto, unfolding(crate::specs::Replica::ReplicaStands))]
@@ -122,7 +119,6 @@ impl ReplicaState {
             self.ledger.known().epoch,
             k,
             due.as_slice(),
-        )?;
-        Ok(())
+        )
     }
 }

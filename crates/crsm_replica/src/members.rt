@@ -36,8 +36,7 @@ impl ReplicaState {
         ensures value { WhereStands self.now (λ x. IfOk result (λ ks. ks.items ≡ others x.replica)) }
         ensures below { IfOk result (λ ks. All (λ k. k < 15) ks.items) }
     {
-        let others = except(self.alloc, self.ledger.counted().as_slice(), self.me)?;
-        Ok(others)
+        except(self.alloc, self.ledger.counted().as_slice(), self.me)
     }
 
     #[tactic(auto, unfolding(crate::specs::Replica::ReplicaStands))]
@@ -46,8 +45,7 @@ impl ReplicaState {
         ensures value { WhereStands self.now (λ x. IfOk result (λ ks. ks.items ≡ other_members x.replica)) }
         ensures below { IfOk result (λ ks. All (λ k. k < 15) ks.items) }
     {
-        let others = except(self.alloc, self.ledger.known().members.as_slice(), self.me)?;
-        Ok(others)
+        except(self.alloc, self.ledger.known().members.as_slice(), self.me)
     }
 
     #[tactic(auto, unfolding(crate::specs::Replica::ReplicaStands))]
@@ -55,8 +53,7 @@ impl ReplicaState {
     pub fn spec(&self) -> Result<Members, NoMemory>
         ensures { WhereStands self.now (λ x. IfOk result (λ ks. ks ≡ spec_of x.replica)) }
     {
-        let spec = self.ledger.spec()?;
-        Ok(spec)
+        self.ledger.spec()
     }
 
     #[tactic(auto, unfolding(crate::specs::Replica::ReplicaStands))]
@@ -64,8 +61,7 @@ impl ReplicaState {
     pub fn members(&self) -> Result<Members, NoMemory>
         ensures { WhereStands self.now (λ x. IfOk result (λ ks. ks ≡ members_of x.replica)) }
     {
-        let members = self.ledger.known().members.copy(self.alloc)?;
-        Ok(members)
+        self.ledger.known().members.copy(self.alloc)
     }
 }
 

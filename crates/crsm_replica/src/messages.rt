@@ -46,8 +46,7 @@ impl ReplicaState {
         ensures { Makes (λ x. send_control control.now x k) self.old result self.new }
     {
         let spelling = spell(self.alloc, control)?;
-        self.send_spelt(k, spelling.as_slice())?;
-        Ok(())
+        self.send_spelt(k, spelling.as_slice())
     }
 
     /// Sends replica `k` a control message that is not needed any more.
@@ -84,8 +83,7 @@ impl ReplicaState {
         ensures { Makes (send_to_all control.now) self.old result self.new }
     {
         let others = self.others()?;
-        self.send_to_each(&others, control)?;
-        Ok(())
+        self.send_to_each(&others, control)
     }
 
     #[tactic(auto, unfolding(crate::specs::Replica::ReplicaStands))]
@@ -99,8 +97,7 @@ impl ReplicaState {
             return Ok(());
         }
         let spelling = spell_decision(self.alloc, known)?;
-        self.send_spelt(k, spelling.as_slice())?;
-        Ok(())
+        self.send_spelt(k, spelling.as_slice())
     }
 
     #[tactic(auto, unfolding(crate::specs::Replica::ReplicaStands))]
@@ -112,7 +109,6 @@ impl ReplicaState {
     {
         let known = self.ledger.known().epoch;
         let from = self.ledger.executed_len();
-        self.tell(k, Control::Retrieve { known, from })?;
-        Ok(())
+        self.tell(k, Control::Retrieve { known, from })
     }
 }

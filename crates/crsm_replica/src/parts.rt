@@ -27,7 +27,6 @@ impl ReplicaState {
         ensures part { IfOk result (λ whole. WhereStands self.old (λ x. ReplicaStands self.new (record x { replica = record x.replica { parts = with_part (piece from boot number index count bytes.now) x.replica.parts } }))) }
         ensures whole { IfOk result (λ whole. WhereStands self.old (λ x. whole ≡ whole_with (piece from boot number index count bytes.now) x.replica.parts)) }
     {
-        let whole = self.gathered.take(from, boot, number, index, count, bytes)?;
-        Ok(whole)
+        self.gathered.take(from, boot, number, index, count, bytes)
     }
 }

@@ -24,8 +24,7 @@ impl ReplicaState {
         if self.all_wait() {
             return Ok(());
         }
-        self.answer_waiting()?;
-        Ok(())
+        self.answer_waiting()
     }
 
     /// Returns whether no waiting client's entry is executed or dropped.
@@ -79,10 +78,9 @@ impl ReplicaState {
             return Err(NoMemory);
         };
         match found {
-            Some((place, answer)) => self.end_answered(client, place, answer)?,
-            None => self.drop_or_wait(client)?,
+            Some((place, answer)) => self.end_answered(client, place, answer),
+            None => self.drop_or_wait(client),
         }
-        Ok(())
     }
 
     /// Answers a client if its entry is dropped, else lets it wait.
@@ -90,10 +88,9 @@ impl ReplicaState {
         ensures { IfOk result (λ _. WhereStands self.old (λ x. FitsWaiting (on_paper client) → ReplicaStands self.new (answer_found (on_paper client) None x))) }
     {
         if has_dropped(&self.ledger, &client.entry) {
-            self.end_dropped(client)?;
-        } else {
-            self.waiting.push(client)?;
+            return self.end_dropped(client);
         }
+        self.waiting.push(client)?;
         Ok(())
     }
 
@@ -119,7 +116,10 @@ impl ReplicaState {
     fn reply_ok(&mut self, client: &Waiting, place: u64, answer: Answer) -> Result<(), NoMemory>
         ensures { IfOk result (λ _. WhereStands self.old (λ x. FitsWaiting (on_paper client.now) → FitsAnswer answer → ReplicaStands self.new (reply_ok (on_paper client.now) place answer x))) }
     {
-        let said = answer.copy(self.alloc)?;
+        let Ok(said) = answer.copy(self.alloc) else {
+            drop(answer);
+            return Err(NoMemory);
+        };
         self.output.reply(Reply {
             address: client.address,
             client: client.entry.command.client,
@@ -132,8 +132,7 @@ impl ReplicaState {
                 place,
                 answer,
             },
-        })?;
-        Ok(())
+        })
     }
 
     /// Tells a client that its entry will never be executed.
@@ -152,7 +151,6 @@ impl ReplicaState {
                 epoch: client.entry.epoch,
                 stamp: client.entry.stamp,
             },
-        })?;
-        Ok(())
+        })
     }
 }

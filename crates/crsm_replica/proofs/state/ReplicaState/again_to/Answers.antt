@@ -1,4 +1,5 @@
 use Rattle.std.proofs.Common.{◌≡◌, ◌∙◌, ◌<◌, ◌^◌, ◌++◌, ap, sym, subst, arith, length, map}
+use Rattle.std.proofs.lemmas.Result.{IfOk-weaker}
 use Rattle.crsm_replica_output.specs.Made.{OutputStands, made_of}
 use Rattle.crsm_spec.specs.Log.{known}
 use Rattle.crsm_spec.specs.Replica.{frames_to}
@@ -14,11 +15,12 @@ returns-then-pushed_to-eq0 c x s = again-none c.args.self.now x c.args.k s (sym 
 
 pub returns : goal.returns
 unfolding ReplicaStands
-returns c x s =
+returns c =
+    IfOk-weaker c.send_again.result _ _ (λ _ is x s.
     let r = x.replica in
     let small : length (frames_to r c.args.k) < 2 ^ 64 = omega (arith, c.pushed_to.ensures r s.epoch_state, c.pushed_to.type_inv) in
     let now : c.known.result.now.epoch ≡ known r.log = ap (λ d. d.epoch) (c.known.ensures.value r.me r.n r.log s.ledger) ∙ known-epoch r.n r.log in
     again c.args.self.now x c.args.k c.send_again.new.output c.as_slice.result.now s c.requires small (c.as_slice.ensures ∙ c.in_ok-due.ensures r s.epoch_state)
     (subst (λ e. OutputStands c.send_again.new.output (record (made_of x) { sends = x.sends ++ map (frame_again r.me e c.args.k) c.as_slice.result.now })) now
     (subst (λ m. OutputStands c.send_again.new.output (record (made_of x) { sends = x.sends ++ map (frame_again m c.known.result.now.epoch c.args.k) c.as_slice.result.now })) s.me
-    (c.in_ok-send_again.ensures (made_of x) s.output)))
+    (is (made_of x) s.output)))) c.send_again.ensures

@@ -1,4 +1,5 @@
 use Rattle.std.proofs.Common.{◌∙◌, ◌++◌, ◌∷◌, [], sym, subst, ap, map}
+use Rattle.std.proofs.lemmas.Result.{IfOk-weaker}
 use Rattle.crsm_fact_log.proofs.Lists.{all-push, map-push}
 use Rattle.crsm_spec.specs.Draft.{Draft}
 use Rattle.crsm_replica.specs.Sound.{FitsWaiting}
@@ -7,15 +8,16 @@ use Rattle.crsm_replica.proofs.Rebuilt.{awaits}
 use Rattle.crsm_replica.proofs.Replying.{none-dropped, none-waits}
 use Rattle.crsm_replica.proofs.state.ReplicaState.drop_or_wait.Goals as goal
 
-pub returns-in_ok-end_dropped : goal.returns-in_ok-end_dropped
+pub returns-then-has_dropped : goal.returns-then-has_dropped
 unfolding ReplicaStands on_paper
-returns-in_ok-end_dropped c x s fit =
+returns-then-has_dropped c =
+    IfOk-weaker c.end_dropped.result _ _ (λ _ is x s fit.
     subst (λ (y : Draft). ReplicaStands c.end_dropped.new.self y)
-    (sym (none-dropped (on_paper c.args.client) x (sym (c.has_dropped.ensures x.replica s.ledger) ∙ c.if-has_dropped.true))) (c.in_ok-end_dropped.ensures x s fit)
+    (sym (none-dropped (on_paper c.args.client) x (sym (c.has_dropped.ensures x.replica s.ledger) ∙ c.if-has_dropped.true))) (is x s fit)) c.end_dropped.ensures
 
-pub returns-in_ok-push : goal.returns-in_ok-push
+pub returns : goal.returns
 unfolding ReplicaStands on_paper
-returns-in_ok-push c x s fit =
+returns c x s fit =
     let w = on_paper c.args.client in
     subst (λ (y : Draft). ReplicaStands (record c.args.self.now { waiting = c.push.new.self }) y)
     (sym (none-waits w x (sym (c.has_dropped.ensures x.replica s.ledger) ∙ c.if-has_dropped.false)))

@@ -1,4 +1,5 @@
 use Rattle.std.proofs.Common.{[], ◌∷◌, ◌++◌}
+use Rattle.std.proofs.lemmas.Result.{IfOk-weaker}
 use Rattle.crsm_replica.specs.Replica.{ReplicaStands}
 use Rattle.crsm_fact_log.proofs.Lists.{all-push}
 use Rattle.crsm_replica_output.specs.Made.{made_of}
@@ -9,7 +10,8 @@ use Rattle.crsm_replica.proofs.state.ReplicaState.send.Goals as goal
 
 pub returns : goal.returns
 unfolding ReplicaStands send
-returns c x s =
+returns c =
+    IfOk-weaker c.send.result _ _ (λ _ is x s.
     sent c.args.self.now x c.send.new.self x.excess (x.sends ++ (c.args.k, c.args.datagram) ∷ []) x.replies s
-    (c.in_ok-send.ensures (made_of x) s.output)
-    (all-push FitsSend x.sends (c.args.k, c.args.datagram) s.sound.sends (c.requires.to, c.requires.spelt)) s.sound.replies
+    (is (made_of x) s.output)
+    (all-push FitsSend x.sends (c.args.k, c.args.datagram) s.sound.sends (c.requires.to, c.requires.spelt)) s.sound.replies) c.send.ensures

@@ -1,5 +1,5 @@
 use Rattle.std.proofs.Common.{◌≡◌, ◌∙◌, ℕ, List, ap, arith, subst, sym, Some}
-use Rattle.crsm_base.specs.Spelling.{FitsDecision}
+use Rattle.std.proofs.lemmas.Result.{IfOk-weaker}
 use Rattle.crsm_replica_output.specs.Spellings.{IsSpellingOf}
 use Rattle.crsm_spec.specs.Types.{Decision, Control}
 use Rattle.crsm_spec.specs.Log.{decision}
@@ -20,7 +20,8 @@ spell_decision-requires c = let other = c.if-known-eq0.false in c.known-known.en
 
 pub returns : goal.returns
 unfolding ReplicaStands
-returns c x s =
+returns c =
+    IfOk-weaker c.send_spelt.result _ _ (λ _ said x s.
     let same = c.known-known.ensures.value x.replica.me x.replica.n x.replica.log s.ledger in
     let known : Decision = c.known-known.result.now in
     let is : decision x.replica.log ≡ Some known = sym (ap (λ (d : Decision). Some d) same ∙ some-known x.replica.n x.replica.log
@@ -29,4 +30,4 @@ returns c x s =
     let other = c.if-known-eq0.false in
     omega (arith, epochs, other, zero))) in
     subst (λ (y : Draft). ReplicaStands c.send_spelt.new.self y) (sym (send_control-known c.args.k x known is))
-    (c.in_ok-send_spelt.ensures x (Control.Decide known) s (subst (λ (bytes : List ℕ). IsSpellingOf bytes (Control.Decide known)) (sym c.as_slice.ensures) c.in_ok-spelling.ensures))
+    (said x (Control.Decide known) s (subst (λ (bytes : List ℕ). IsSpellingOf bytes (Control.Decide known)) (sym c.as_slice.ensures) c.in_ok-spelling.ensures))) c.send_spelt.ensures
