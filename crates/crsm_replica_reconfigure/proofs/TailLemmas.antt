@@ -1,8 +1,10 @@
 -- The rest of a tail follows the executed entries if its first entry is after the last of them.
 use Rattle.std.proofs.Common.{◌≡◌, ℕ, zero, suc, ◌+◌, ◌<◌, ◌≤◌, List, [], ◌∷◌, ◌++◌, length, drop, get_or, refl, sym, ◌∙◌, ap, arith, Bool, true, false, length-append}
-use Rattle.std.specs.Prelude.{◌-◌, ◌&&◌, nat_lt, nat_le, Option, Some, None, slice_get, if◌then◌else◌}
+use Rattle.std.specs.Prelude.{◌-◌, ◌&&◌, nat_lt, nat_le, Option, Some, None, slice_get, if◌then◌else◌, min}
 use Rattle.std.specs.List.{last_or}
-use Rattle.std.specs.Option.{option_map_or}
+use Rattle.std.specs.Borrow.{Bor}
+use Rattle.std.specs.Option.{option_map_or, option_copied, is_some, IfSome}
+use Rattle.std.proofs.lemmas.Bool.{false≢true}
 use Rattle.std.proofs.lemmas.Bool.Decides.{nat_tests}
 use Rattle.std.proofs.lemmas.Option.{none-some, same_Some, slice_get_within, slice_get-get_or, slice_get_past}
 use Rattle.crsm_base.specs.Order.{entry_lt}
@@ -123,3 +125,46 @@ rest_behind o done es slice d count e b some h sl c l is =
 pub rest_nothing : (o : Option Decision) (done es slice : List Entry) (d : Decision) (count : ℕ) → o ≡ Some d → slice ≡ es → count ≡ length done + length slice → None ≡ first_left d count → true ≡ rest_goes_on o (done ++ es)
 rest_nothing o done es slice d count h sl c l =
     rest_as o (done ++ es) d true h (none_left d (done ++ es) count (c ∙ ap (λ zs. length done + length zs) sl ∙ sym (length-append done es)) l)
+
+-- ---- the first entry that is left, as code finds it
+
+pub left_before : (d : Decision) (n : ℕ) → n < d.base_len → None ≡ first_left d n
+unfolding first_left
+left_before d n below = go (nat_lt n d.base_len) (grind (arith, nat_tests))
+  where
+    go : (t : Bool) → t ≡ true → None ≡ (if t then None else slice_get d.tail (n - d.base_len))
+    go true h = refl
+    go false h = absurd (false≢true h)
+
+left_after : (d : Decision) (n i : ℕ) → d.base_len ≤ n → i ≡ n - d.base_len → slice_get d.tail i ≡ first_left d n
+unfolding first_left
+left_after d n i above is = ap (slice_get d.tail) is ∙ go (nat_lt n d.base_len) (grind (arith, nat_tests))
+  where
+    go : (t : Bool) → t ≡ false → slice_get d.tail (n - d.base_len) ≡ (if t then None else slice_get d.tail (n - d.base_len))
+    go false h = refl
+    go true h = absurd (false≢true (sym h))
+
+found_copied : (o : Option (Bor Entry)) (xs : List Entry) (i : ℕ) → is_some o ≡ nat_lt i (length xs) → IfSome o (λ x. x.now ≡ get_or xs i x.now) → option_copied o ≡ slice_get xs i
+found_copied None xs i says at = sym (slice_get_past xs i (grind (arith, nat_tests)))
+found_copied (Some x) xs i says at = ap (λ z. Some z) at ∙ sym (slice_get-get_or xs i x.now (grind (arith, nat_tests)))
+
+pub left_at : (d : Decision) (o : Option (Bor Entry)) (xs : List Entry) (n i : ℕ) → xs ≡ d.tail → d.base_len ≤ n → i ≡ n - d.base_len →
+    is_some o ≡ nat_lt i (length xs) → IfSome o (λ x. x.now ≡ get_or xs i x.now) → option_copied o ≡ first_left d n
+left_at d o xs n i tail above is says at = found_copied o xs i says at ∙ ap (λ ts. slice_get ts i) tail ∙ left_after d n i above is
+
+left_behind : (d : Decision) (done more start : ℕ) → d.base_len ≤ done → start ≡ min (done - d.base_len) (length d.tail) → slice_get d.tail (start + more) ≡ first_left d (done + more)
+left_behind d done more start above is = go (nat_lt (length d.tail) (done - d.base_len)) refl
+  where
+    go : (t : Bool) → nat_lt (length d.tail) (done - d.base_len) ≡ t → slice_get d.tail (start + more) ≡ first_left d (done + more)
+    go true e =
+        let far : length d.tail < done - d.base_len = grind (arith, nat_tests) in
+        slice_get_past d.tail (start + more) (omega (arith, far, is)) ∙ sym (slice_get_past d.tail ((done + more) - d.base_len) (omega (arith, far, above)))
+        ∙ left_after d (done + more) ((done + more) - d.base_len) (omega (arith, above)) refl
+    go false e =
+        let near : done - d.base_len ≤ length d.tail = grind (arith, nat_tests) in
+        left_after d (done + more) (start + more) (omega (arith, above)) (omega (arith, near, above, is))
+
+pub left_from : (d : Decision) (o : Option (Bor Entry)) (xs : List Entry) (done more start : ℕ) → xs ≡ d.tail → d.base_len ≤ done → start ≡ min (done - d.base_len) (length xs) →
+    is_some o ≡ nat_lt (start + more) (length xs) → IfSome o (λ x. x.now ≡ get_or xs (start + more) x.now) → option_copied o ≡ first_left d (done + more)
+left_from d o xs done more start tail above is says at =
+    found_copied o xs (start + more) says at ∙ ap (λ ts. slice_get ts (start + more)) tail ∙ left_behind d done more start above (is ∙ ap (λ ts. min (done - d.base_len) (length ts)) tail)

@@ -42,8 +42,7 @@ pub fn on_p1b(
     if !takes {
         return Ok(());
     }
-    count_answer(state, k, accepted)?;
-    Ok(())
+    count_answer(state, k, accepted)
 }
 
 /// Counts the promise of a replica. If it makes a majority, the value that the promises determine is proposed; if the
@@ -65,11 +64,9 @@ fn count_answer(
             return Ok(());
         }
         put_answer(state, k, accepted)?;
-        accept_and_send(state)?;
-        return Ok(());
+        return accept_and_send(state);
     }
-    put_answer(state, k, accepted)?;
-    Ok(())
+    put_answer(state, k, accepted)
 }
 
 /// Returns whether the records of the replica's own acceptance would fit once this promise makes the majority.

@@ -77,11 +77,9 @@ pub fn begin_proposing(
     };
     state.set_coordinator(coordinator);
     if is_alone {
-        accept_and_send(state)?;
-        return Ok(());
+        return accept_and_send(state);
     }
-    send_ask(state)?;
-    Ok(())
+    send_ask(state)
 }
 
 /// Returns a coordinator that asks for promises in the round after this ballot's, with its own promise counted.

@@ -46,8 +46,7 @@ fn send_both(
     let replicas = both_specs(state.alloc(), old, new, me)?;
     let decision = decision.copy(state.alloc())?;
     let control = Control::Decide { decision };
-    tell_each(state, replicas, control)?;
-    Ok(())
+    tell_each(state, replicas, control)
 }
 
 /// Returns the replicas of both sets without `me`, in ascending order.

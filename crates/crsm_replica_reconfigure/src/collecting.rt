@@ -48,8 +48,7 @@ pub fn on_suspend_ok(state: &mut ReplicaState, k: u32, answer: &Control) -> Resu
         drop(collect);
         return Err(NoMemory);
     };
-    go_on(state, k, collect, got)?;
-    Ok(())
+    go_on(state, k, collect, got)
 }
 
 /// Acts on the outcome of a page, the last one from replica `k`: asks for the next page, waits, proposes the decision,
@@ -71,8 +70,7 @@ pub(crate) fn go_on(
         }
         PageOutcome::More { .. } => {
             state.set_coordinator(Coordinator::collecting(collect));
-            ask_page(state, k)?;
-            Ok(())
+            ask_page(state, k)
         }
         PageOutcome::Kept => {
             state.set_coordinator(Coordinator::collecting(collect));
@@ -80,8 +78,7 @@ pub(crate) fn go_on(
         }
         PageOutcome::Complete(decision) => {
             drop(collect);
-            begin_proposing(state, decision, NO_BALLOT)?;
-            Ok(())
+            begin_proposing(state, decision, NO_BALLOT)
         }
         PageOutcome::TooMany { count, bytes } => {
             drop(collect);
@@ -113,8 +110,7 @@ fn ask_missing(state: &mut ReplicaState, k: u32) -> Result<(), NoMemory>
     if is_whole {
         return Ok(());
     }
-    ask_page(state, k)?;
-    Ok(())
+    ask_page(state, k)
 }
 
 /// Asks replica `k` for its next page, if a collection is in progress.
@@ -125,8 +121,7 @@ fn ask_page(state: &mut ReplicaState, k: u32) -> Result<(), NoMemory>
     let epoch = state.known();
     let after = state.coordinator().cursor(k);
     let control = Control::Suspend { epoch, after };
-    tell(state, k, control)?;
-    Ok(())
+    tell(state, k, control)
 }
 
 /// Returns whether a collection is in progress.

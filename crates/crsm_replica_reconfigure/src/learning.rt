@@ -29,8 +29,7 @@ pub fn on_decide(state: &mut ReplicaState, k: u32, decision: &Decision) -> Resul
     if !fits {
         return Ok(());
     }
-    retrieve_base(state, k)?;
-    Ok(())
+    retrieve_base(state, k)
 }
 
 /// Learns a decision. `false` if its records do not fit, `NoMemory` if memory runs out; with `false` the state is
@@ -58,8 +57,7 @@ pub fn advance(state: &mut ReplicaState) -> Result<(), NoMemory>
     ensures { MakesWhere (λ x. (adopt_tail x).fitting ≡ true) advance state.old result state.new }
 {
     adopt_tail(state)?;
-    state.enter()?;
-    Ok(())
+    state.enter()
 }
 
 fn adopt_tail(state: &mut ReplicaState) -> Result<(), NoMemory>
@@ -98,8 +96,7 @@ pub fn adopt(state: &mut ReplicaState, place: u64, entries: &[Entry]) -> Result<
 {
     let entries = copied(state.alloc(), entries)?;
     let rec = Rec::Adopt { place, entries };
-    let fits = state.keep(rec)?;
-    Ok(fits)
+    state.keep(rec)
 }
 
 /// Returns the entries after the first `count`.
@@ -133,8 +130,7 @@ fn retrieve_base(state: &mut ReplicaState, k: u32) -> Result<(), NoMemory>
     let done = state.executed_len();
     let base_len = state.base_len();
     if done < base_len {
-        state.send_retrieve(k)?;
-        return Ok(());
+        return state.send_retrieve(k);
     }
     Ok(())
 }

@@ -24,13 +24,11 @@ pub fn on_retrieve(state: &mut ReplicaState, k: u32, known: u64, from: u64) -> R
 {
     let own = state.known();
     if known < own {
-        state.send_decision(k)?;
-        return Ok(());
+        return state.send_decision(k);
     }
     send_page(state, k, from)?;
     if own < known {
-        state.send_retrieve(k)?;
-        return Ok(());
+        return state.send_retrieve(k);
     }
     Ok(())
 }
@@ -45,8 +43,7 @@ fn send_page(state: &mut ReplicaState, k: u32, from: u64) -> Result<(), NoMemory
     let Some(control) = found else {
         return Ok(());
     };
-    tell(state, k, control)?;
-    Ok(())
+    tell(state, k, control)
 }
 
 /// Handles a page of executed entries from replica `k`. `NoMemory` if memory runs out.
@@ -88,6 +85,5 @@ fn take_entries(state: &mut ReplicaState, k: u32, entries: &Entries) -> Result<(
         return Ok(());
     }
     advance(state)?;
-    state.send_retrieve(k)?;
-    Ok(())
+    state.send_retrieve(k)
 }

@@ -89,8 +89,7 @@ pub fn promise(state: &mut ReplicaState, instance: u64, ballot: Ballot) -> Resul
     ensures { MakesFitting (keep (RecOnPaper.Promise instance ballot)) state.old result state.new }
 {
     let rec = Rec::Promise { instance, ballot };
-    let fits = state.keep(rec)?;
-    Ok(fits)
+    state.keep(rec)
 }
 
 /// Records the acceptance of a decision in this ballot. `false` if the record does not fit, `NoMemory` if memory runs
@@ -111,8 +110,7 @@ pub fn accept(
         ballot,
         decision,
     };
-    let fits = state.keep(rec)?;
-    Ok(fits)
+    state.keep(rec)
 }
 
 /// Returns whether the instance is the next one. If not, replica `k` is answered.
@@ -151,8 +149,7 @@ fn send_promise(
         ballot,
         accepted,
     };
-    tell(state, k, control)?;
-    Ok(())
+    tell(state, k, control)
 }
 
 /// Sends replica `k` a refusal: a greater ballot was promised.
@@ -173,8 +170,7 @@ fn refuse(
         ballot,
         promised,
     };
-    tell(state, k, control)?;
-    Ok(())
+    tell(state, k, control)
 }
 
 /// Sends replica `k` the vote for its ballot's decision.
@@ -184,6 +180,5 @@ fn vote(state: &mut ReplicaState, k: u32, instance: u64, ballot: Ballot) -> Resu
     ensures { Makes (λ x. send_control (ControlOnPaper.P2b instance ballot) x k) state.old result state.new }
 {
     let control = Control::P2b { instance, ballot };
-    tell(state, k, control)?;
-    Ok(())
+    tell(state, k, control)
 }

@@ -51,8 +51,7 @@ pub fn on_suspect(state: &mut ReplicaState, members: &Members) -> Result<(), NoM
         drop((collect, got));
         return Err(NoMemory);
     };
-    go_on(state, me, collect, got)?;
-    Ok(())
+    go_on(state, me, collect, got)
 }
 
 /// Returns a collection for the next epoch without pages, or `None` if these cannot be its members.
@@ -87,11 +86,9 @@ fn next_spec(state: &ReplicaState, spec: &Members, members: &Members) -> Result<
 {
     let are_of_spec = are_among(members.as_slice(), spec.as_slice());
     if are_of_spec {
-        let next = spec.copy(state.alloc())?;
-        return Ok(next);
+        return spec.copy(state.alloc());
     }
-    let next = members.copy(state.alloc())?;
-    Ok(next)
+    members.copy(state.alloc())
 }
 
 /// Returns the counted replicas of the next epoch as a decision names them: `None` if they are the replicas that began
@@ -123,10 +120,7 @@ fn may_go_on(state: &ReplicaState, got: &PageOutcome) -> Result<bool, NoMemory>
     ensures { IfOk result (λ fit. (x y : Draft) → ReplicaStands state.now x → CanBegin got.now x → BeginsAlike x y → fit ≡ begins_fitting got.now y) }
 {
     match got {
-        PageOutcome::Complete(decision) => {
-            let fits = may_begin(state, decision, NO_BALLOT)?;
-            Ok(fits)
-        }
+        PageOutcome::Complete(decision) => may_begin(state, decision, NO_BALLOT),
         PageOutcome::Stranger => Ok(true),
         PageOutcome::More { .. } => Ok(true),
         PageOutcome::Kept => Ok(true),
@@ -140,8 +134,7 @@ fn suspend_all(state: &mut ReplicaState) -> Result<(), NoMemory>
 {
     states_are_sound();
     suspend_once(state)?;
-    send_suspend(state)?;
-    Ok(())
+    send_suspend(state)
 }
 
 /// Asks each other counted replica for its frozen log.
@@ -150,6 +143,5 @@ fn send_suspend(state: &mut ReplicaState) -> Result<(), NoMemory>
 {
     let epoch = state.known();
     let control = Control::Suspend { epoch, after: None };
-    tell_all(state, control)?;
-    Ok(())
+    tell_all(state, control)
 }

@@ -79,6 +79,5 @@ pub fn accept_and_send(state: &mut ReplicaState) -> Result<(), NoMemory>
     ensures { IfOk result (λ _. WhereProposing state.old (λ x b own value acceptors. CanAcceptOwn b own value acceptors x → ReplicaStands state.new (renew (CoordinatorOnPaper.Proposing b own value acceptors) x))) }
 {
     accept_own(state)?;
-    send_proposal(state)?;
-    Ok(())
+    send_proposal(state)
 }

@@ -24,8 +24,7 @@ pub fn send_ask(state: &mut ReplicaState) -> Result<(), NoMemory>
     };
     let missing = missing(state)?;
     let control = Control::P1a { instance, ballot };
-    tell_each(state, missing, control)?;
-    Ok(())
+    tell_each(state, missing, control)
 }
 
 /// Sends the proposal, if there is one, to each counted replica that has not accepted it. `NoMemory` if memory runs
@@ -50,8 +49,7 @@ pub fn send_proposal(state: &mut ReplicaState) -> Result<(), NoMemory>
         ballot,
         decision,
     };
-    tell_each(state, missing, control)?;
-    Ok(())
+    tell_each(state, missing, control)
 }
 
 /// Returns the other counted replicas whose promise or vote is not counted. `NoMemory` if memory runs out.
@@ -77,8 +75,7 @@ pub fn ask_all(state: &mut ReplicaState) -> Result<(), NoMemory>
     let known = state.known();
     let from = state.executed_len();
     let control = Control::Retrieve { known, from };
-    tell_all(state, control)?;
-    Ok(())
+    tell_all(state, control)
 }
 
 /// Returns the instance that the coordinator's own decision is for, and its ballot, or `None` unless it asks for

@@ -53,8 +53,7 @@ pub fn suspend_once(state: &mut ReplicaState) -> Result<bool, NoMemory>
     }
     let epoch = state.known();
     let rec = Rec::Suspend { epoch };
-    let fits = state.keep(rec)?;
-    Ok(fits)
+    state.keep(rec)
 }
 
 /// Sends replica `k` the first page of the frozen log above a stamp.
@@ -64,6 +63,5 @@ fn send_frozen(state: &mut ReplicaState, k: u32, after: Option<Stamp>) -> Result
     ensures { Makes (λ x. send_control (suspend_ok x.replica.log after) x k) state.old result state.new }
 {
     let control = page_of(state.alloc(), state.ledger(), after)?;
-    tell(state, k, control)?;
-    Ok(())
+    tell(state, k, control)
 }

@@ -22,8 +22,7 @@ pub fn tail_goes_on(state: &ReplicaState, decision: &Decision) -> Result<bool, N
     let Some(entry) = first_left(decision, state.executed_len(), 0) else {
         return Ok(true);
     };
-    let is_behind = stands_behind(state.ledger(), entry)?;
-    Ok(is_behind)
+    stands_behind(state.ledger(), entry)
 }
 
 /// Returns whether the rest of the known decision's tail follows the executed entries and `entries`, which is not

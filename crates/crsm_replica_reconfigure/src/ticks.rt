@@ -20,8 +20,7 @@ pub fn renew_and_ask(state: &mut ReplicaState) -> Result<(), NoMemory>
     if !fits {
         return Ok(());
     }
-    ask_all(state)?;
-    Ok(())
+    ask_all(state)
 }
 
 /// Retries the coordinator's stage. `false` if its records do not fit; the state is then unchanged.

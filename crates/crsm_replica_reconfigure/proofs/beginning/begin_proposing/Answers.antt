@@ -1,6 +1,7 @@
 use Rattle.std.proofs.Common.{◌≡◌, ◌∙◌, ◌+◌, [], ◌∷◌, sym, subst, ap, true}
 use Rattle.std.specs.Prelude.{◌==◌}
 use Rattle.std.proofs.lemmas.Bool.{eq-eqb}
+use Rattle.std.proofs.lemmas.Result.{IfOk-weaker}
 use Rattle.crsm_spec.specs.Types.{Ballot, Rec}
 use Rattle.crsm_spec.specs.Clock.{u64_max}
 use Rattle.crsm_spec.specs.Log.{decision, promised}
@@ -23,7 +24,8 @@ returns-then-top c = λ x s p.
     subst (λ y. ReplicaStands c.set_coordinator.new.self y) (sym is) (c.set_coordinator.ensures x Coordinator.Idle s (c.quiet.ensures x.replica.me x.replica.n (decision x.replica.log)))
 
 pub returns-then-is_alone : goal.returns-then-is_alone
-returns-then-is_alone c = λ x s p.
+returns-then-is_alone c =
+    IfOk-weaker c.accept_and_send.result _ _ (λ _ made x s p.
     let sound = c.states_are_sound.ensures c.args.state.now x s in
     let top = c.greater-top.ensures ∙ ap (λ b. greater_ballot b c.args.seen) (c.promised.ensures.value x s) in
     let left = round_left c.greater-top.result c.if-top.false in
@@ -42,10 +44,11 @@ returns-then-is_alone c = λ x s p.
     let set = subst (λ q. ReplicaStands c.set_coordinator-2.new.self (noting q z)) (answered_last (spec_of x.replica) b c.args.own (mine x ∷ []) many) (c.set_coordinator-2.ensures z (answered (spec_of x.replica) b c.args.own (mine x ∷ [])) mid stands) in
     let is = begin_asks c.args.own c.args.seen x (ap (λ (q : Ballot). q.round == u64_max) (sym top) ∙ left) ∙ ask_last b c.args.own x many in
     let whole : (accept_own b c.args.own v [] (noting m z)).fitting ≡ true = sym (renewed_fitting b c.args.own v [] (noting m z)) ∙ ap (λ y. y.fitting) (sym is) ∙ p.1 in
-    subst (λ y. ReplicaStands c.accept_and_send.new.state y) (sym is) (c.in_ok-accept_and_send.ensures (noting m z) b c.args.own v [] set (noted m z) whole)
+    subst (λ y. ReplicaStands c.accept_and_send.new.state y) (sym is) (made (noting m z) b c.args.own v [] set (noted m z) whole)) c.accept_and_send.ensures
 
 pub returns : goal.returns
-returns c = λ x s p.
+returns c =
+    IfOk-weaker c.send_ask.result _ _ (λ _ made x s p.
     let sound = c.states_are_sound.ensures c.args.state.now x s in
     let top = c.greater-top.ensures ∙ ap (λ b. greater_ballot b c.args.seen) (c.promised.ensures.value x s) in
     let left = round_left c.greater-top.result c.if-top.false in
@@ -62,4 +65,4 @@ returns c = λ x s p.
     let m : Coordinator = Coordinator.Preparing b c.args.own (mine x ∷ []) in
     let set = subst (λ q. ReplicaStands c.set_coordinator-2.new.self (noting q z)) (answered_more (spec_of x.replica) b c.args.own (mine x ∷ []) few) (c.set_coordinator-2.ensures z (answered (spec_of x.replica) b c.args.own (mine x ∷ [])) mid stands) in
     let is = begin_asks c.args.own c.args.seen x (ap (λ (q : Ballot). q.round == u64_max) (sym top) ∙ left) ∙ ask_more b c.args.own x few in
-    subst (λ y. ReplicaStands c.send_ask.new.state y) (sym is) (c.in_ok-send_ask.ensures (noting m z) b c.args.own (mine x ∷ []) set (noted m z))
+    subst (λ y. ReplicaStands c.send_ask.new.state y) (sym is) (made (noting m z) b c.args.own (mine x ∷ []) set (noted m z))) c.send_ask.ensures

@@ -1,4 +1,5 @@
 use Rattle.std.proofs.Common.{◌≡◌, ◌∙◌, sym, subst, true, false}
+use Rattle.std.proofs.lemmas.Result.{IfOk-weaker}
 use Rattle.crsm_spec.specs.Collect.{is_whole}
 use Rattle.crsm_spec.specs.Log.{decision}
 use Rattle.crsm_replica_coordinator.specs.Coordinator.{CoordinatorStands}
@@ -13,7 +14,8 @@ returns-then-is_whole c = λ x ms pages s e.
     subst (λ y. ReplicaStands c.args.state.now y) (missing_whole pages x c.args.k whole) s
 
 pub returns : goal.returns
-returns c = λ x ms pages s e.
+returns c =
+    IfOk-weaker c.ask_page.result _ _ (λ _ made x ms pages s e.
     let stands = subst (λ m. CoordinatorStands c.coordinator.result.now x.replica.me x.replica.n (decision x.replica.log) m) e (c.coordinator.ensures x s) in
     let whole : is_whole pages c.args.k ≡ false = sym (c.is_whole-is_whole.ensures x.replica.me x.replica.n x.replica.log ms pages stands) ∙ c.if-is_whole.false in
-    subst (λ y. ReplicaStands c.ask_page.new.state y) (missing_asked pages x c.args.k whole) (c.in_ok-ask_page.ensures x ms pages s e)
+    subst (λ y. ReplicaStands c.ask_page.new.state y) (missing_asked pages x c.args.k whole) (made x ms pages s e)) c.ask_page.ensures

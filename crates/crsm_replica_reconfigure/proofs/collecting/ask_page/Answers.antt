@@ -1,4 +1,5 @@
 use Rattle.std.proofs.Common.{◌<◌, ◌^◌, subst, arith}
+use Rattle.std.proofs.lemmas.Result.{IfOk-weaker}
 use Rattle.crsm_spec.specs.Log.{decision}
 use Rattle.crsm_replica_coordinator.specs.Coordinator.{CoordinatorStands}
 use Rattle.crsm_replica.specs.Replica.{ReplicaStands}
@@ -11,7 +12,8 @@ tell-requires-clause-spelt c =
     (small, c.cursor-after.ensures.fits)
 
 pub returns : goal.returns
-returns c = λ x ms pages s e.
+returns c =
+    IfOk-weaker c.tell.result _ _ (λ _ made x ms pages s e.
     let stands = subst (λ m. CoordinatorStands c.coordinator.result.now x.replica.me x.replica.n (decision x.replica.log) m) e (c.coordinator.ensures x s) in
     let after = c.cursor-after.ensures.value x.replica.me x.replica.n x.replica.log ms pages stands in
-    subst (λ y. ReplicaStands c.tell.new.state y) (ask_as pages x c.args.k c.known-epoch.result c.cursor-after.result (c.known-epoch.ensures x s) after) (c.in_ok-tell.ensures x s)
+    subst (λ y. ReplicaStands c.tell.new.state y) (ask_as pages x c.args.k c.known-epoch.result c.cursor-after.result (c.known-epoch.ensures x s) after) (made x s)) c.tell.ensures

@@ -1,5 +1,6 @@
 use Rattle.std.proofs.Common.{◌≡◌, ◌∙◌, sym, subst, ap, refl}
 use Rattle.std.specs.Option.{IsSomeAnd}
+use Rattle.std.proofs.lemmas.Result.{IfOk-weaker}
 use Rattle.crsm_spec.specs.Log.{decision}
 use Rattle.crsm_spec.specs.Quorum.{spec_decided}
 use Rattle.crsm_spec.specs.Replica.{Coordinator}
@@ -28,7 +29,8 @@ returns-in_default c = λ x s apart.
 
 pub returns : goal.returns
 unfolding noting
-returns c = λ x s apart.
+returns c =
+    IfOk-weaker c.go_on.result _ _ (λ _ made x s apart.
     let k = c.args.k in
     let a = c.in_ok-answer.answer in
     let m = collecting_as x.replica.coordinator (sym (c.is_collecting-is_collecting.ensures x s) ∙ c.if-not-is_collecting.false) in
@@ -47,10 +49,10 @@ returns c = λ x s apart.
     let after = after_report k a ms pages x in
     let gathering = gathers x.replica.me x.replica.n x.replica.log ms after c.take.new.self g.counted (c.in-Ok.ensures.state x.replica.log spec named ms pages held) in
     let can = report_goes_on k a ms pages x (c.states_are_sound.ensures c.args.state.now x s) report apart g.counted fits in
-    let gone = c.in_ok-go_on.ensures (noting Coordinator.Idle x) ms after (c.take_coordinator-coordinator.ensures.quiet x s) gathering (subst (λ r. CanGoOn k after r (noting Coordinator.Idle x)) (sym got) can) in
+    let gone = made (noting Coordinator.Idle x) ms after (c.take_coordinator-coordinator.ensures.quiet x s) gathering (subst (λ r. CanGoOn k after r (noting Coordinator.Idle x)) (sym got) can) in
     let is = taken_is_got x.replica.log spec named ms pages k a report in
     let rule : on_got ms after (report_got k a ms pages x) (noting (Coordinator.Collecting ms after) (noting Coordinator.Idle x)) ≡ on_control k c.args.answer.now x =
     done_in ms pages after k _ (report_got k a ms pages x) x is m.2 ∙ by_the_rules c.got_is_by_the_rules.ensures.taken k a ms pages x report m.2 ∙ ap (λ b. on_control k b x) c.in_ok-answer.ensures in
     is_whole c.go_on.new.state x _
     (ap (λ y. y.fitting) (sym rule) ∙ report_fitting ms after (report_got k a ms pages x) (Coordinator.Collecting ms after) x (c.states_are_sound.ensures c.args.state.now x s).fitting can.fits)
-    (subst (λ y. ReplicaStands c.go_on.new.state y) rule (subst (λ r. ReplicaStands c.go_on.new.state (on_got ms after r (noting (Coordinator.Collecting ms after) (noting Coordinator.Idle x)))) got gone))
+    (subst (λ y. ReplicaStands c.go_on.new.state y) rule (subst (λ r. ReplicaStands c.go_on.new.state (on_got ms after r (noting (Coordinator.Collecting ms after) (noting Coordinator.Idle x)))) got gone))) c.go_on.ensures

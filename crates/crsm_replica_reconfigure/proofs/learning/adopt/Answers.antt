@@ -1,5 +1,6 @@
 use Rattle.std.proofs.Common.{◌≡◌, ◌<◌, sym, subst, arith}
 use Rattle.std.specs.Prelude.{◌^◌}
+use Rattle.std.proofs.lemmas.Result.{IfOk-weaker}
 use Rattle.crsm_base.specs.Spelling.{FitsEntries}
 use Rattle.crsm_spec.specs.Types.{Rec}
 use Rattle.crsm_spec.specs.Draft.{keep}
@@ -13,6 +14,7 @@ keep-requires-clause-spelt c =
     (small, subst FitsEntries (sym c.in_ok-entries.ensures) c.requires)
 
 pub returns : goal.returns
-returns c = λ x s.
+returns c =
+    IfOk-weaker c.keep.result _ _ (λ fits made x s.
     let copy : c.in_ok-entries.entries ≡ c.args.entries.now = c.in_ok-entries.ensures in
-    subst (λ es. (c.in_ok-fits.fits ≡ (keep (Rec.Adopt c.args.place es) x).fitting) × ReplicaStands c.keep.new.self (if_fitting x (keep (Rec.Adopt c.args.place es) x))) copy (c.in_ok-fits.ensures x s)
+    subst (λ es. (fits ≡ (keep (Rec.Adopt c.args.place es) x).fitting) × ReplicaStands c.keep.new.self (if_fitting x (keep (Rec.Adopt c.args.place es) x))) copy (made x s)) c.keep.ensures

@@ -1,6 +1,7 @@
 use Rattle.std.proofs.Common.{◌∙◌, sym, subst, ap}
 use Rattle.std.specs.Prelude.{Option}
 use Rattle.std.specs.Option.{IfSome}
+use Rattle.std.proofs.lemmas.Result.{IfOk-weaker}
 use Rattle.crsm_base.specs.Messages.{FitsControl}
 use Rattle.crsm_spec.specs.Types.{Control}
 use Rattle.crsm_spec.specs.Draft.{send_control}
@@ -20,8 +21,9 @@ pub tell-requires-clause-spelt : goal.tell-requires-clause-spelt
 tell-requires-clause-spelt c = subst (λ (o : Option Control). IfSome o FitsControl) c.in-Some.is c.in_ok-found.ensures.fits
 
 pub returns : goal.returns
-returns c = λ x s.
+returns c =
+    IfOk-weaker c.tell.result _ _ (λ _ made x s.
     let sound = c.states_are_sound.ensures c.args.state.now x s in
     let rise = executed_rises x.replica.me x.replica.n x.replica.log sound.kept sound.spelt in
     let p = page_there c.args.k c.args.from x c.in-Some.control (sym c.in-Some.is ∙ c.in_ok-found.ensures.value x.replica.me x.replica.n x.replica.log (c.ledger.ensures.stands x s) rise) in
-    subst (λ y. ReplicaStands c.tell.new.state y) (ap (λ m. send_control m x c.args.k) p.0 ∙ sym p.1) (c.in_ok-tell.ensures x s)
+    subst (λ y. ReplicaStands c.tell.new.state y) (ap (λ m. send_control m x c.args.k) p.0 ∙ sym p.1) (made x s)) c.tell.ensures

@@ -8,6 +8,7 @@ use Rattle.crsm_spec.specs.Step.{if_fitting}
 use Rattle.crsm_replica.specs.Replica.{ReplicaStands}
 use Rattle.crsm_replica_reconfigure.specs.Rules.{take_executed}
 use Rattle.std.specs.Prelude.{◌==◌}
+use Rattle.std.proofs.lemmas.Result.{IfOk-weaker}
 use Rattle.crsm_replica_reconfigure.proofs.PageLemmas.{tail_fits, take_fitting, no_entries}
 use Rattle.crsm_replica_reconfigure.proofs.DraftLemmas.{is_whole, is_ignored, was_whole, was_ignored, and_yes, and_no, and_none}
 use Rattle.crsm_replica_reconfigure.proofs.paging.take_entries.Goals as goal
@@ -40,7 +41,8 @@ adopt-requires c = subst FitsEntries (sym c.as_slice-2.ensures) c.requires.spelt
 
 pub returns : goal.returns
 unfolding take_executed
-returns c = λ x s f.
+returns c =
+    IfOk-weaker c.send_retrieve.result _ _ (λ _ made x s f.
     let slice : c.as_slice-2.result.now ≡ c.args.entries.now = c.as_slice-2.ensures in
     let j = c.in_ok-fits.ensures x s in
     let k = subst (λ es. (c.in_ok-fits.fits ≡ (keep (Rec.Adopt c.executed_len-place.result es) x).fitting) × ReplicaStands c.adopt.new.state (if_fitting x (keep (Rec.Adopt c.executed_len-place.result es) x))) slice j in
@@ -54,4 +56,4 @@ returns c = λ x s f.
     take_fitting c.args.k x c.args.entries.now sound f ∙ and_yes _ _ g ∙ ap (λ i. (keep (Rec.Adopt i c.args.entries.now) x).fitting) (sym place) ∙ u in
     is_whole c.send_retrieve.new.self x _ e
     (subst (λ i. ReplicaStands c.send_retrieve.new.self (send_retrieve c.args.k (advance (keep (Rec.Adopt i c.args.entries.now) x)))) place
-    (c.in_ok-send_retrieve.ensures (advance z) (c.in_ok-advance.ensures z (was_whole c.adopt.new.state x z u k.1) t)))
+    (made (advance z) (c.in_ok-advance.ensures z (was_whole c.adopt.new.state x z u k.1) t)))) c.send_retrieve.ensures

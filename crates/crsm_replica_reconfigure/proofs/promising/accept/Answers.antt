@@ -1,5 +1,6 @@
 use Rattle.std.proofs.Common.{◌≡◌, ◌<◌, sym, subst, arith}
 use Rattle.std.specs.Prelude.{◌^◌}
+use Rattle.std.proofs.lemmas.Result.{IfOk-weaker}
 use Rattle.crsm_base.specs.Spelling.{FitsDecision}
 use Rattle.crsm_spec.specs.Types.{Rec}
 use Rattle.crsm_spec.specs.Draft.{keep}
@@ -13,6 +14,7 @@ keep-requires-clause-spelt c =
     (small, c.requires.ballot, subst FitsDecision (sym c.in_ok-decision.ensures) c.requires.decision)
 
 pub returns : goal.returns
-returns c = λ x s.
+returns c =
+    IfOk-weaker c.keep.result _ _ (λ fits made x s.
     let copy : c.in_ok-decision.decision ≡ c.args.decision.now = c.in_ok-decision.ensures in
-    subst (λ d. (c.in_ok-fits.fits ≡ (keep (Rec.Accept c.args.instance c.args.ballot d) x).fitting) × ReplicaStands c.keep.new.self (if_fitting x (keep (Rec.Accept c.args.instance c.args.ballot d) x))) copy (c.in_ok-fits.ensures x s)
+    subst (λ d. (fits ≡ (keep (Rec.Accept c.args.instance c.args.ballot d) x).fitting) × ReplicaStands c.keep.new.self (if_fitting x (keep (Rec.Accept c.args.instance c.args.ballot d) x))) copy (made x s)) c.keep.ensures

@@ -1,4 +1,5 @@
 use Rattle.std.proofs.Common.{◌≡◌, ◌∙◌, sym, subst, ap, true, [], ◌∷◌}
+use Rattle.std.proofs.lemmas.Result.{IfOk-weaker}
 use Rattle.crsm_spec.specs.Collect.{own_page}
 use Rattle.crsm_spec.specs.Replica.{Coordinator, spec_of, named_spec}
 use Rattle.crsm_spec.specs.Draft.{noting}
@@ -32,7 +33,8 @@ returns-then-not-fits c = λ x s.
     is_ignored c.args.state.now x _ (suspect_fitting law ms x sound begun.0 ∙ sym fit ∙ c.if-not-fits.true) s
 
 pub returns : goal.returns
-returns c = λ x s.
+returns c =
+    IfOk-weaker c.go_on.result _ _ (λ _ made x s.
     let ms = c.args.members.now in
     let law = c.got_is_by_the_rules.ensures.counted in
     let sound = c.states_are_sound.ensures c.args.state.now x s in
@@ -52,9 +54,9 @@ returns c = λ x s.
     (c.in-Ok.ensures.state x.replica.n x.replica.log spec named ms [] says begun.1) in
     let sent = c.in-Ok-suspend_all.ensures x s in
     let can = suspect_goes_on law ms x sound begun.0 spelt fitting in
-    let gone = c.in_ok-go_on.ensures (all_told ms x) ms (own_pages ms x) sent (suspect_gathers law ms x sound begun.0 c.take_own.new.self held)
+    let gone = made (all_told ms x) ms (own_pages ms x) sent (suspect_gathers law ms x sound begun.0 c.take_own.new.self held)
     (subst (λ k. CanGoOn k (own_pages ms x) c.in-Ok.got (all_told ms x)) (sym me) (subst (λ r. CanGoOn x.replica.me (own_pages ms x) r (all_told ms x)) (sym got) can)) in
     let rule = suspect_is law ms x sound begun.0 in
     is_whole c.go_on.new.state x _ (suspect_fitting law ms x sound begun.0 ∙ fitting)
     (subst (λ y. ReplicaStands c.go_on.new.state y) (sym rule)
-    (subst (λ r. ReplicaStands c.go_on.new.state (on_got ms (own_pages ms x) r (noting (Coordinator.Collecting ms (own_pages ms x)) (all_told ms x)))) got gone))
+    (subst (λ r. ReplicaStands c.go_on.new.state (on_got ms (own_pages ms x) r (noting (Coordinator.Collecting ms (own_pages ms x)) (all_told ms x)))) got gone))) c.go_on.ensures

@@ -1,5 +1,6 @@
 use Rattle.std.proofs.Common.{◌≡◌, ◌∙◌, ℕ, ◌<◌, subst, ap, refl}
 use Rattle.std.specs.Prelude.{◌^◌, Some, filter, not}
+use Rattle.std.proofs.lemmas.Result.{IfOk-weaker}
 use Rattle.crsm_base.specs.Spelling.{FitsBallot, FitsOption}
 use Rattle.crsm_spec.specs.Types.{Ballot}
 use Rattle.crsm_spec.specs.Log.{decision}
@@ -24,7 +25,8 @@ tell_each-requires-clause-spelt c =
 
 pub returns : goal.returns
 unfolding round_of
-returns c = λ x b own answers s e.
+returns c =
+    IfOk-weaker c.tell_each.result _ _ (λ _ made x b own answers s e.
     let m : Coordinator = Coordinator.Preparing b own answers in
     let stands = subst (λ z. CoordinatorStands c.coordinator.result.now x.replica.me x.replica.n (decision x.replica.log) z) e (c.coordinator.ensures x s) in
     let mine = asking_mine x.replica.me x.replica.n (decision x.replica.log) c.coordinator.result.now b own answers stands in
@@ -33,7 +35,6 @@ returns c = λ x b own answers s e.
     let own_is : c.in-Some.instance ≡ own.epoch = both.0 in
     let same : c.in-Some.ballot ≡ b = both.1 in
     let next = own_is ∙ own_next x x.replica.me x.replica.n own mine.0 in
-    let sent = c.in_ok-tell_each.ensures x s in
     subst (λ y. ReplicaStands c.tell_each.new.state y)
     (ask_as b own answers x c.in-Some.ballot c.in-Some.instance (others x.replica) c.in_ok-missing.missing.items same next refl
-    (c.in_ok-missing.ensures.value x s ∙ ap (λ n. filter (λ k. not (has (counted_of n) k)) (others x.replica)) e)) sent
+    (c.in_ok-missing.ensures.value x s ∙ ap (λ n. filter (λ k. not (has (counted_of n) k)) (others x.replica)) e)) (made x s)) c.tell_each.ensures

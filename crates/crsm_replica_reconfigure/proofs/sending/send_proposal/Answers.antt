@@ -1,5 +1,6 @@
 use Rattle.std.proofs.Common.{◌≡◌, ◌∙◌, ℕ, ◌<◌, refl, sym, subst, ap}
 use Rattle.std.specs.Prelude.{◌^◌, None, filter, not}
+use Rattle.std.proofs.lemmas.Result.{IfOk-weaker}
 use Rattle.crsm_base.specs.Messages.{FitsVote}
 use Rattle.crsm_base.specs.Spelling.{FitsBallot, FitsOption}
 use Rattle.crsm_spec.specs.Types.{Ballot}
@@ -30,7 +31,8 @@ tell_each-requires-clause-spelt c =
     (round.0, vote.0, vote.1)
 
 pub returns : goal.returns
-returns c = λ x s.
+returns c =
+    IfOk-weaker c.tell_each.result _ _ (λ _ made x s.
     let found = sym (c.in_ok-found.ensures.value x.replica.me x.replica.n (decision x.replica.log) x.replica.coordinator (c.coordinator-2.ensures x s)) ∙ c.in-Some-found.is in
     let p = is_proposal x.replica.coordinator (c.in-Some-found.ballot, c.in-Some-found.decision) found in
     let m : Coordinator = Coordinator.Proposing c.in-Some-found.ballot p.own c.in-Some-found.decision p.acceptors in
@@ -39,8 +41,7 @@ returns c = λ x s.
     let own_is : c.in-Some.instance ≡ p.own.epoch = round_is c.in-Some-found.ballot p.own c.in-Some-found.decision p.acceptors c.in-Some.instance _
     (sym (c.round_in-round.ensures.value x.replica.me x.replica.n (decision x.replica.log) m stands) ∙ c.in-Some.is) in
     let next = own_is ∙ own_next x x.replica.me x.replica.n p.own mine.0 in
-    let sent = c.in_ok-tell_each.ensures x s in
     subst (λ y. ReplicaStands c.tell_each.new.state y)
     (proposal_as c.in-Some-found.ballot p.own c.in-Some-found.decision p.acceptors x c.in-Some-found.ballot c.in-Some-found.decision c.in-Some.instance (others x.replica) c.in-Ok.missing.items refl refl next refl
     (c.in-Ok.ensures.value x s ∙ ap (λ n. filter (λ k. not (has (counted_of n) k)) (others x.replica)) p.is)
-    ∙ ap (λ n. send_proposal n x) (sym p.is)) sent
+    ∙ ap (λ n. send_proposal n x) (sym p.is)) (made x s)) c.tell_each.ensures

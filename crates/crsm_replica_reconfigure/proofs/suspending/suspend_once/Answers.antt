@@ -1,4 +1,5 @@
 use Rattle.std.proofs.Common.{◌≡◌, ◌∙◌, sym, subst, ap, true}
+use Rattle.std.proofs.lemmas.Result.{IfOk-weaker}
 use Rattle.crsm_spec.specs.Types.{Rec}
 use Rattle.crsm_spec.specs.Draft.{keep}
 use Rattle.crsm_replica.specs.Replica.{ReplicaStands}
@@ -14,9 +15,10 @@ returns-then-is_suspended c = λ x s.
     (sym fit, is_whole c.args.state.now x _ fit (subst (λ y. ReplicaStands c.args.state.now y) (sym is) s))
 
 pub returns : goal.returns
-returns c = λ x s.
+returns c =
+    IfOk-weaker c.keep.result _ _ (λ _ made x s.
     let epoch = c.known-epoch.ensures x s in
-    let k = c.in_ok-fits.ensures x s in
+    let k = made x s in
     let is : keep (Rec.Suspend c.known-epoch.result) x ≡ suspend_once x =
     ap (λ e. keep (Rec.Suspend e) x) epoch ∙ sym (once_now x (sym (c.is_suspended-is_suspended.ensures x s) ∙ c.if-is_suspended.false)) in
-    (k.0 ∙ ap (λ y. y.fitting) is, instead c.keep.new.self x _ _ is k.1)
+    (k.0 ∙ ap (λ y. y.fitting) is, instead c.keep.new.self x _ _ is k.1)) c.keep.ensures

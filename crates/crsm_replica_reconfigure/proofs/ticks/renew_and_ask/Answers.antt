@@ -1,4 +1,5 @@
 use Rattle.std.proofs.Common.{◌≡◌, ◌∙◌, sym, true, false}
+use Rattle.std.proofs.lemmas.Result.{IfOk-weaker}
 use Rattle.crsm_spec.specs.Draft.{Draft}
 use Rattle.crsm_spec.specs.Step.{ask_all, renew}
 use Rattle.crsm_replica_reconfigure.proofs.DraftLemmas.{is_whole, is_ignored, was_whole, was_ignored}
@@ -13,8 +14,9 @@ returns-then-not-fits c = λ x s.
     is_ignored c.renew.new.state x (ask_all y) (asked_all_fitting y ∙ u) (was_ignored c.renew.new.state x y u both.1)
 
 pub returns : goal.returns
-returns c = λ x s.
+returns c =
+    IfOk-weaker c.ask_all.result _ _ (λ _ made x s.
     let both = c.in_ok-fits.ensures x s in
     let y : Draft = renew x.replica.coordinator x in
     let u : y.fitting ≡ true = sym both.0 ∙ c.if-not-fits.false in
-    is_whole c.ask_all.new.state x (ask_all y) (asked_all_fitting y ∙ u) (c.in_ok-ask_all.ensures y (was_whole c.renew.new.state x y u both.1))
+    is_whole c.ask_all.new.state x (ask_all y) (asked_all_fitting y ∙ u) (made y (was_whole c.renew.new.state x y u both.1))) c.ask_all.ensures

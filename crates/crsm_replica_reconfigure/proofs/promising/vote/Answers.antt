@@ -1,0 +1,4 @@
+use Rattle.crsm_replica_reconfigure.proofs.promising.vote.Goals as goal
+
+pub returns : goal.returns
+returns c = c.tell.ensures
