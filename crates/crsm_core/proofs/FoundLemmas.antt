@@ -1,5 +1,5 @@
 -- Logs in bodies.
-use Rattle.std.proofs.Common.{◌≡◌, ℕ, List, [], ◌∷◌, sym, subst}
+use Rattle.std.proofs.Common.{ℕ, List, [], ◌∷◌, sym, subst}
 use Rattle.std.specs.List.{AllByRecursion}
 use Rattle.crsm_base.specs.Records.{FitsRec}
 use Rattle.crsm_spec.specs.Types.{Rec}

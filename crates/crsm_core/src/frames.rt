@@ -33,25 +33,21 @@ pub(crate) fn on_frame(
     states_are_sound();
     let known = state.known();
     if epoch < known {
-        state.send_decision(k)?;
-        return Ok(());
+        return state.send_decision(k);
     }
     if known < epoch {
-        state.send_retrieve(k)?;
-        return Ok(());
+        return state.send_retrieve(k);
     }
     if !takes_part_with(state, k) {
         return Ok(());
     }
     if seq != state.next_from(k) {
-        state.ack(k)?;
-        return Ok(());
+        return state.ack(k);
     }
     if is_odd(state, k, payload) {
         return Ok(());
     }
-    take_frame(state, k, payload)?;
-    Ok(())
+    take_frame(state, k, payload)
 }
 
 /// Returns whether the replica is active, and `k` is a member of its epoch.
@@ -112,20 +108,15 @@ fn take_frame(state: &mut ReplicaState, k: u32, payload: &InEpoch) -> Result<(),
 {
     states_are_sound();
     match payload {
-        InEpoch::Prepare { entry } => {
-            take_prepare(state, k, entry)?;
-            Ok(())
-        }
+        InEpoch::Prepare { entry } => take_prepare(state, k, entry),
         InEpoch::PrepareOk { stamp, at } => {
             state.take_next(k, *at)?;
             state.ack(k)?;
-            state.count_vote(*stamp, k)?;
-            Ok(())
+            state.count_vote(*stamp, k)
         }
         InEpoch::ClockTime { at } => {
             state.take_next(k, *at)?;
-            state.ack(k)?;
-            Ok(())
+            state.ack(k)
         }
     }
 }
@@ -144,8 +135,7 @@ fn take_prepare(state: &mut ReplicaState, k: u32, entry: &Entry) -> Result<(), N
     state.ack(k)?;
     state.count_vote(entry.stamp, k)?;
     state.count_vote(entry.stamp, me)?;
-    state.owe(entry.stamp)?;
-    Ok(())
+    state.owe(entry.stamp)
 }
 
 /// Handles an acknowledgement of an epoch from replica `k`: the frames below `next` were received. `NoMemory` if memory
@@ -169,6 +159,5 @@ pub(crate) fn on_ack(
     if next > state.pushed_to(k) {
         return Ok(());
     }
-    state.acked(k, next)?;
-    Ok(())
+    state.acked(k, next)
 }

@@ -21,8 +21,7 @@ pub(crate) fn idle(state: &mut ReplicaState, reading: u64) -> Result<(), NoMemor
     let Some(time) = state.would(reading) else {
         return Ok(());
     };
-    state.push_at(time, InEpoch::ClockTime { at: time })?;
-    Ok(())
+    state.push_at(time, InEpoch::ClockTime { at: time })
 }
 
 /// Returns whether the reading is at least `IDLE_UNITS` above the time issued last, and no link is congested.

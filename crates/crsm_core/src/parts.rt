@@ -47,8 +47,7 @@ pub(crate) fn on_part(
     let Some(message) = whole else {
         return Ok(());
     };
-    on_message(state, from, message.as_slice())?;
-    Ok(())
+    on_message(state, from, message.as_slice())
 }
 
 /// Handles the bytes of a whole message. Bytes that are not a control message change nothing.
@@ -57,10 +56,7 @@ fn on_message(state: &mut ReplicaState, from: u32, bytes: &[u8]) -> Result<(), N
     ensures { FollowsFrom from (rules.on_whole_message from (control_of bytes.now)) state.old result state.new }
 {
     match read_control(state.alloc(), bytes) {
-        Ok(control) => {
-            handle(state, from, control)?;
-            Ok(())
-        }
+        Ok(control) => handle(state, from, control),
         Err(WireError::NotOne) => Ok(()),
         Err(WireError::NoMemory) => Err(NoMemory),
     }

@@ -25,14 +25,12 @@ pub(crate) fn on_request(
 {
     states_are_sound();
     if let Some(why) = refusal(state) {
-        state.refuse(address, command, why)?;
-        return Ok(());
+        return state.refuse(address, command, why);
     }
     let Some(time) = state.would(reading) else {
         return Ok(());
     };
-    submit(state, address, command, time)?;
-    Ok(())
+    submit(state, address, command, time)
 }
 
 /// Returns the reason for refusing a request, or `None` to accept it.
@@ -87,8 +85,7 @@ fn submit(
         drop(entry);
         return Err(NoMemory);
     };
-    state.push_at(time, InEpoch::Prepare { entry })?;
-    Ok(())
+    state.push_at(time, InEpoch::Prepare { entry })
 }
 
 /// Counts the vote of replica `me` for the entry, and records that the client at `address` waits for it.
@@ -104,6 +101,5 @@ fn vote_and_await(
 {
     state.count_vote(entry.stamp, me)?;
     let awaited = entry.copy(state.alloc())?;
-    state.await_entry(address, awaited)?;
-    Ok(())
+    state.await_entry(address, awaited)
 }

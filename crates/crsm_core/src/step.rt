@@ -33,8 +33,7 @@ pub(crate) fn step(state: &mut ReplicaState, input: &Input, reading: u64) -> Res
     owed_oks(state, reading)?;
     idle_at(state, input, reading)?;
     commits(state)?;
-    state.replies()?;
-    Ok(())
+    state.replies()
 }
 
 /// Applies the rule of an input.

@@ -16,11 +16,9 @@ pub(crate) fn on_tick(state: &mut ReplicaState) -> Result<(), NoMemory>
 {
     states_are_sound();
     if state.is_active() {
-        send_again(state)?;
-        return Ok(());
+        return send_again(state);
     }
-    renew_and_ask(state)?;
-    Ok(())
+    renew_and_ask(state)
 }
 
 /// Retransmits the first unacknowledged frames of each link.

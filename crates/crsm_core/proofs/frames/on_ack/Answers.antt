@@ -1,5 +1,6 @@
 use Rattle.std.proofs.Common.{◌≡◌, ◌∙◌, ◌<◌, ◌≤◌, sym, arith, length, true, false}
 use Rattle.std.specs.Prelude.{◌≢◌}
+use Rattle.std.proofs.lemmas.Result.{IfOk-weaker}
 use Rattle.crsm_spec.specs.Log.{known}
 use Rattle.crsm_spec.specs.Replica.{frames_to}
 use Rattle.crsm_spec.specs.Frames.{on_ack}
@@ -27,10 +28,11 @@ returns-then-next-pushed_to c = λ x s.
     left c.args.state.now x (on_ack c.args.k c.args.epoch c.args.next x) (too_many c.args.k c.args.epoch c.args.next x e m n) s
 
 pub returns : goal.returns
-returns c = λ x s.
+returns c =
+    IfOk-weaker c.acked.result _ _ (λ _ made x s.
     let e : c.args.epoch ≡ known x.replica.log = c.if-epoch-known.false ∙ c.known.ensures x s in
     let m : with_member c.args.k x.replica ≡ true = sym (c.takes_part_with.ensures x s) ∙ c.if-not-takes_part_with.false in
     let pushed = c.pushed_to.ensures x s in
     let n : c.args.next ≤ length (frames_to x.replica c.args.k) = omega (arith, pushed) in
     kept c.acked.new.self x (on_ack c.args.k c.args.epoch c.args.next x) (acked_to c.args.k c.args.next x) c.states_are_sound.ensures
-    (is_acked c.args.k c.args.epoch c.args.next x e m n) (c.in_ok-acked.ensures x s n)
+    (is_acked c.args.k c.args.epoch c.args.next x e m n) (made x s n)) c.acked.ensures

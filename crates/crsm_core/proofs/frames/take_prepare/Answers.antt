@@ -1,5 +1,6 @@
 use Rattle.std.proofs.Common.{◌≡◌, ◌∙◌, ◌<◌, sym, subst, true}
 use Rattle.std.specs.Prelude.{◌≢◌}
+use Rattle.std.proofs.lemmas.Result.{IfOk-weaker}
 use Rattle.crsm_spec.specs.Types.{Entry, Rec}
 use Rattle.crsm_spec.specs.Replica.{latest_from}
 use Rattle.crsm_spec.specs.Draft.{Draft, keep, count_vote}
@@ -16,7 +17,8 @@ returns-then-not-branch c = λ x s n l.
     is_not_taken c.log_entry.new.state c.args.k e x (sym both.0 ∙ c.if-not-branch.true) both.1
 
 pub returns : goal.returns
-returns c = λ x s n l.
+returns c =
+    IfOk-weaker c.owe.result _ _ (λ _ made x s n l.
     let e : Entry = c.args.entry.now in
     let k = c.args.k in
     let t = e.stamp.time in
@@ -30,6 +32,6 @@ returns c = λ x s n l.
     let b = c.in_ok-ack.ensures (received_at k t y) a in
     let d = c.in_ok-count_vote.ensures (ack k (received_at k t y)) b in
     let f = c.in_ok-count_vote-2.ensures (count_vote e.stamp k (ack k (received_at k t y))) d in
-    let g = c.in_ok-owe.ensures (count_vote e.stamp c.me-me.result (count_vote e.stamp k (ack k (received_at k t y)))) f in
+    let g = made (count_vote e.stamp c.me-me.result (count_vote e.stamp k (ack k (received_at k t y)))) f in
     is_taken c.owe.new.self k e x fit
-    (subst (λ m. ReplicaStands c.owe.new.self (owe e.stamp (count_vote e.stamp m (count_vote e.stamp k (ack k (received_at k t y)))))) (c.me-me.ensures.value x s) g)
+    (subst (λ m. ReplicaStands c.owe.new.self (owe e.stamp (count_vote e.stamp m (count_vote e.stamp k (ack k (received_at k t y)))))) (c.me-me.ensures.value x s) g)) c.owe.ensures

@@ -1,4 +1,5 @@
 use Rattle.std.proofs.Common.{◌≡◌, ◌∙◌, refl, sym, arith, true}
+use Rattle.std.proofs.lemmas.Result.{IfOk-weaker}
 use Rattle.crsm_base.specs.Spelling.{FitsEntry}
 use Rattle.crsm_spec.specs.Types.{Stamp, Entry, Rec}
 use Rattle.crsm_spec.specs.Clients.{await}
@@ -25,7 +26,8 @@ returns-then-not-fits c = λ x reading s w.
     (sym both.0 ∙ c.if-not-fits.true) both.1
 
 pub returns : goal.returns
-returns c = λ x reading s w.
+returns c =
+    IfOk-weaker c.push_at.result _ _ (λ _ made x reading s w.
     let both = c.in-Ok.ensures x s in
     let me = c.me-me.result in
     let stamp : Stamp = record { time = c.args.time; origin = me } in
@@ -37,8 +39,8 @@ returns c = λ x reading s w.
     let d = c.in-Ok-vote_and_await.ensures y a in
     let fits : FitsEntry e =
     entry_fits c.args.command.now c.in_ok-copy.field-0 c.args.time me c.known.result c.in_ok-copy.ensures c.requires (omega arith) c.me-me.ensures.below (omega arith) in
-    let g = c.in_ok-push_at.ensures (await c.args.address e (count_vote stamp me y)) reading d fits (would_kept c.args.address e stamp me rec x reading ∙ w) in
+    let g = made (await c.args.address e (count_vote stamp me y)) reading d fits (would_kept c.args.address e stamp me rec x reading ∙ w) in
     is_submitted c.push_at.new.self c.args.address c.args.command.now c.args.time x stamp e e me (c.me-me.ensures.value x s)
     (stamp_is c.args.time me x (c.me-me.ensures.value x s))
     (entry_is c.args.command.now c.in_ok-copy.field-0 c.args.time me c.known.result x (c.me-me.ensures.value x s) (c.known.ensures x s) c.in_ok-copy.ensures)
-    refl fit g
+    refl fit g) c.push_at.ensures
