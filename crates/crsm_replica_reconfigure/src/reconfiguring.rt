@@ -80,7 +80,6 @@ fn begin(state: &ReplicaState, members: &Members) -> Result<Option<Collect>, NoM
 
 /// Returns the counted replicas of the next epoch with these members: the present ones if they include all members,
 /// else the members.
-#[tactic(auto, unfolding(crsm_spec::specs::Replica::next_spec))]
 fn next_spec(state: &ReplicaState, spec: &Members, members: &Members) -> Result<Members, NoMemory>
     ensures { IfOk result (λ next. (x : Draft) → spec.now ≡ spec_of x.replica → next ≡ next_spec x.replica members.now) }
 {

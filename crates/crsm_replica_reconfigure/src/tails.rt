@@ -46,7 +46,6 @@ pub fn rest_goes_on(state: &ReplicaState, entries: &Entries) -> Result<bool, NoM
 
 /// Returns the first entry of the tail that is not among the `done` executed ones and the `more` after them, or `None`
 /// if these do not contain the base or no entry is left.
-#[tactic(auto, unfolding(crate::specs::Rules::first_left))]
 fn first_left(decision: &Decision, done: u64, more: usize) -> Option<&Entry>
     requires { more < 2 ^ 63 }
     ensures { option_copied result ≡ first_left decision.now (done + more) }
