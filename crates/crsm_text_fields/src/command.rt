@@ -113,17 +113,21 @@ pub fn put_entry(entry: &Entry, out: &mut Bytes) -> Result<(), NoMemory>
 fn take_get(alloc: Global, bytes: &[u8]) -> Result<Option<(Op, &[u8])>, NoMemory>
     ensures { IfOk result (λ r. option_map (λ x. (x.0, x.1.now)) r ≡ get_at bytes.now) }
 {
-    let Some((key, rest)) = take_key(alloc, bytes)? else {
-        return Ok(None);
-    };
-    Ok(Some((Op::Get(key), rest)))
+    match take_key(alloc, bytes) {
+        Ok(Some((key, rest))) => Ok(Some((Op::Get(key), rest))),
+        Ok(None) => Ok(None),
+        Err(NoMemory) => Err(NoMemory),
+    }
 }
 
 #[tactic(auto, unfolding(crsm_base::specs::Reading::put_at))]
 fn take_put(alloc: Global, bytes: &[u8]) -> Result<Option<(Op, &[u8])>, NoMemory>
     ensures { IfOk result (λ r. option_map (λ x. (x.0, x.1.now)) r ≡ put_at bytes.now) }
 {
-    let Some((key, rest)) = take_key(alloc, bytes)? else {
+    let Ok(taken) = take_key(alloc, bytes) else {
+        return Err(NoMemory);
+    };
+    let Some((key, rest)) = taken else {
         return Ok(None);
     };
     let Ok(taken) = take_val(alloc, rest) else {
@@ -141,10 +145,11 @@ fn take_put(alloc: Global, bytes: &[u8]) -> Result<Option<(Op, &[u8])>, NoMemory
 fn take_delete(alloc: Global, bytes: &[u8]) -> Result<Option<(Op, &[u8])>, NoMemory>
     ensures { IfOk result (λ r. option_map (λ x. (x.0, x.1.now)) r ≡ delete_at bytes.now) }
 {
-    let Some((key, rest)) = take_key(alloc, bytes)? else {
-        return Ok(None);
-    };
-    Ok(Some((Op::Delete(key), rest)))
+    match take_key(alloc, bytes) {
+        Ok(Some((key, rest))) => Ok(Some((Op::Delete(key), rest))),
+        Ok(None) => Ok(None),
+        Err(NoMemory) => Err(NoMemory),
+    }
 }
 
 // Parses the two values of a compare-and-set.
@@ -154,7 +159,10 @@ fn take_two(
 ) -> Result<Option<((Option<Val>, Option<Val>), &[u8])>, NoMemory>
     ensures { IfOk result (λ r. option_map (λ x. (x.0, x.1.now)) r ≡ both option_val_at option_val_at bytes.now) }
 {
-    let Some((expected, rest)) = take_option_val(alloc, bytes)? else {
+    let Ok(taken) = take_option_val(alloc, bytes) else {
+        return Err(NoMemory);
+    };
+    let Some((expected, rest)) = taken else {
         return Ok(None);
     };
     let Ok(taken) = take_option_val(alloc, rest) else {
@@ -172,7 +180,10 @@ fn take_two(
 fn take_cas(alloc: Global, bytes: &[u8]) -> Result<Option<(Op, &[u8])>, NoMemory>
     ensures { IfOk result (λ r. option_map (λ x. (x.0, x.1.now)) r ≡ cas_at bytes.now) }
 {
-    let Some((key, rest)) = take_key(alloc, bytes)? else {
+    let Ok(taken) = take_key(alloc, bytes) else {
+        return Err(NoMemory);
+    };
+    let Some((key, rest)) = taken else {
         return Ok(None);
     };
     let Ok(taken) = take_two(alloc, rest) else {
@@ -216,10 +227,11 @@ pub fn take_command(alloc: Global, bytes: &[u8]) -> Result<Option<(Command, &[u8
     let Some((number, rest)) = take_u64(rest) else {
         return Ok(None);
     };
-    let Some((op, rest)) = take_op(alloc, rest)? else {
-        return Ok(None);
-    };
-    Ok(Some((Command { client, number, op }, rest)))
+    match take_op(alloc, rest) {
+        Ok(Some((op, rest))) => Ok(Some((Command { client, number, op }, rest))),
+        Ok(None) => Ok(None),
+        Err(NoMemory) => Err(NoMemory),
+    }
 }
 
 /// Parses an entry at the beginning of `bytes`. Returns it and the remaining bytes, or `None` if they do not begin with
@@ -234,15 +246,16 @@ pub fn take_entry(alloc: Global, bytes: &[u8]) -> Result<Option<(Entry, &[u8])>,
     let Some((stamp, rest)) = take_stamp(rest) else {
         return Ok(None);
     };
-    let Some((command, rest)) = take_command(alloc, rest)? else {
-        return Ok(None);
-    };
-    Ok(Some((
-        Entry {
-            epoch,
-            stamp,
-            command,
-        },
-        rest,
-    )))
+    match take_command(alloc, rest) {
+        Ok(Some((command, rest))) => Ok(Some((
+            Entry {
+                epoch,
+                stamp,
+                command,
+            },
+            rest,
+        ))),
+        Ok(None) => Ok(None),
+        Err(NoMemory) => Err(NoMemory),
+    }
 }

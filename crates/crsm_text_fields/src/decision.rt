@@ -98,12 +98,18 @@ fn take_spec_members(
         return Ok(None);
     };
     if *first < SPEC_MARK {
-        let Some((members, rest)) = take_members(alloc, bytes)? else {
+        let Ok(taken) = take_members(alloc, bytes) else {
+            return Err(NoMemory);
+        };
+        let Some((members, rest)) = taken else {
             return Ok(None);
         };
         return Ok(Some(((None, members), rest)));
     }
-    let Some((spec, rest)) = take_spec(alloc, bytes)? else {
+    let Ok(taken) = take_spec(alloc, bytes) else {
+        return Err(NoMemory);
+    };
+    let Some((spec, rest)) = taken else {
         return Ok(None);
     };
     let Ok(taken) = take_members(alloc, rest) else {
@@ -124,7 +130,10 @@ fn take_bare_decision(alloc: Global, bytes: &[u8]) -> Result<Option<(Decision, &
     let Some((epoch, rest)) = take_u64(bytes) else {
         return Ok(None);
     };
-    let Some((sets, rest)) = take_spec_members(alloc, rest)? else {
+    let Ok(taken) = take_spec_members(alloc, rest) else {
+        return Err(NoMemory);
+    };
+    let Some((sets, rest)) = taken else {
         return Ok(None);
     };
     let Some((base_len, rest)) = take_u64(rest) else {
@@ -156,7 +165,10 @@ fn take_bare_decision(alloc: Global, bytes: &[u8]) -> Result<Option<(Decision, &
 pub fn take_decision(alloc: Global, bytes: &[u8]) -> Result<Option<(Decision, &[u8])>, NoMemory>
     ensures { IfOk result (λ r. option_map (λ x. (x.0, x.1.now)) r ≡ decision_at bytes.now) }
 {
-    let Some((decision, rest)) = take_bare_decision(alloc, bytes)? else {
+    let Ok(taken) = take_bare_decision(alloc, bytes) else {
+        return Err(NoMemory);
+    };
+    let Some((decision, rest)) = taken else {
         return Ok(None);
     };
     if !is_whole(&decision) {

@@ -39,7 +39,11 @@ fn take_many_entries(
 {
     let mut entries = Entries::new(alloc);
     // The count comes from the input: no more is reserved than the remaining bytes can hold.
-    entries.reserve((count as usize).min(bytes.len() / LEAST_ENTRY_BYTES))?;
+    let room = (count as usize).min(bytes.len() / LEAST_ENTRY_BYTES);
+    let Ok(()) = entries.reserve(room) else {
+        drop(entries);
+        return Err(NoMemory);
+    };
     let mut rest = bytes;
     for _ in 0..count {
         let Ok(taken) = take_entry(alloc, rest) else {
@@ -89,7 +93,10 @@ pub fn take_entries(alloc: Global, bytes: &[u8]) -> Result<Option<(Entries, &[u8
     if count > MAX_TAIL_ENTRIES {
         return Ok(None);
     }
-    let Some((entries, rest)) = take_many_entries(alloc, count, inner)? else {
+    let Ok(taken) = take_many_entries(alloc, count, inner) else {
+        return Err(NoMemory);
+    };
+    let Some((entries, rest)) = taken else {
         return Ok(None);
     };
     if !rises(entries.as_slice()) {

@@ -71,10 +71,11 @@ pub fn take_replicas(
     let Some((cells, rest)) = take_run(count as usize, bytes) else {
         return Ok(None);
     };
-    let Some(members) = members_of(alloc, cells)? else {
-        return Ok(None);
-    };
-    Ok(Some((members, rest)))
+    match members_of(alloc, cells) {
+        Ok(Some(members)) => Ok(Some((members, rest))),
+        Ok(None) => Ok(None),
+        Err(NoMemory) => Err(NoMemory),
+    }
 }
 
 /// Parses members at the beginning of `bytes`. Returns them and the remaining bytes, or `None` if they do not begin

@@ -59,20 +59,22 @@ pub fn put_outcome(outcome: &Outcome, out: &mut Bytes) -> Result<(), NoMemory>
 fn take_found(alloc: Global, bytes: &[u8]) -> Result<Option<(Answer, &[u8])>, NoMemory>
     ensures { IfOk result (λ r. option_map (λ x. (x.0, x.1.now)) r ≡ found_at bytes.now) }
 {
-    let Some((val, rest)) = take_val(alloc, bytes)? else {
-        return Ok(None);
-    };
-    Ok(Some((Answer::Found(val), rest)))
+    match take_val(alloc, bytes) {
+        Ok(Some((val, rest))) => Ok(Some((Answer::Found(val), rest))),
+        Ok(None) => Ok(None),
+        Err(NoMemory) => Err(NoMemory),
+    }
 }
 
 #[tactic(auto, unfolding(crsm_base::specs::Reading::differs_at))]
 fn take_differs(alloc: Global, bytes: &[u8]) -> Result<Option<(Answer, &[u8])>, NoMemory>
     ensures { IfOk result (λ r. option_map (λ x. (x.0, x.1.now)) r ≡ differs_at bytes.now) }
 {
-    let Some((val, rest)) = take_option_val(alloc, bytes)? else {
-        return Ok(None);
-    };
-    Ok(Some((Answer::Differs(val), rest)))
+    match take_option_val(alloc, bytes) {
+        Ok(Some((val, rest))) => Ok(Some((Answer::Differs(val), rest))),
+        Ok(None) => Ok(None),
+        Err(NoMemory) => Err(NoMemory),
+    }
 }
 
 #[tactic(auto, unfolding(crsm_base::specs::Reading::stale_at))]
@@ -109,10 +111,11 @@ pub fn take_answer(alloc: Global, bytes: &[u8]) -> Result<Option<(Answer, &[u8])
 fn take_answered(alloc: Global, bytes: &[u8]) -> Result<Option<(Outcome, &[u8])>, NoMemory>
     ensures { IfOk result (λ r. option_map (λ x. (x.0, x.1.now)) r ≡ answered_at bytes.now) }
 {
-    let Some((answer, rest)) = take_answer(alloc, bytes)? else {
-        return Ok(None);
-    };
-    Ok(Some((Outcome::Answered(answer), rest)))
+    match take_answer(alloc, bytes) {
+        Ok(Some((answer, rest))) => Ok(Some((Outcome::Answered(answer), rest))),
+        Ok(None) => Ok(None),
+        Err(NoMemory) => Err(NoMemory),
+    }
 }
 
 /// Parses an outcome at the beginning of `bytes`. Returns it and the remaining bytes, or `None` if they do not begin

@@ -93,10 +93,11 @@ fn take_boot(_alloc: Global, bytes: &[u8]) -> Result<Option<(Rec, &[u8])>, NoMem
 fn take_prepare(alloc: Global, bytes: &[u8]) -> Result<Option<(Rec, &[u8])>, NoMemory>
     ensures { IfOk result (λ r. option_map (λ x. (x.0, x.1.now)) r ≡ prepare_rec_at bytes.now) }
 {
-    let Some((entry, rest)) = take_entry(alloc, bytes)? else {
-        return Ok(None);
-    };
-    Ok(Some((Rec::Prepare { entry }, rest)))
+    match take_entry(alloc, bytes) {
+        Ok(Some((entry, rest))) => Ok(Some((Rec::Prepare { entry }, rest))),
+        Ok(None) => Ok(None),
+        Err(NoMemory) => Err(NoMemory),
+    }
 }
 
 #[tactic(auto, unfolding(crsm_base::specs::RecordReading::commit_at))]
@@ -116,10 +117,11 @@ fn take_adopt(alloc: Global, bytes: &[u8]) -> Result<Option<(Rec, &[u8])>, NoMem
     let Some((place, rest)) = take_u64(bytes) else {
         return Ok(None);
     };
-    let Some((entries, rest)) = take_entries(alloc, rest)? else {
-        return Ok(None);
-    };
-    Ok(Some((Rec::Adopt { place, entries }, rest)))
+    match take_entries(alloc, rest) {
+        Ok(Some((entries, rest))) => Ok(Some((Rec::Adopt { place, entries }, rest))),
+        Ok(None) => Ok(None),
+        Err(NoMemory) => Err(NoMemory),
+    }
 }
 
 #[tactic(auto, unfolding(crsm_base::specs::RecordReading::suspend_rec_at))]
@@ -155,27 +157,29 @@ fn take_accept(alloc: Global, bytes: &[u8]) -> Result<Option<(Rec, &[u8])>, NoMe
     let Some((ballot, rest)) = take_ballot(rest) else {
         return Ok(None);
     };
-    let Some((decision, rest)) = take_decision(alloc, rest)? else {
-        return Ok(None);
-    };
-    Ok(Some((
-        Rec::Accept {
-            instance,
-            ballot,
-            decision,
-        },
-        rest,
-    )))
+    match take_decision(alloc, rest) {
+        Ok(Some((decision, rest))) => Ok(Some((
+            Rec::Accept {
+                instance,
+                ballot,
+                decision,
+            },
+            rest,
+        ))),
+        Ok(None) => Ok(None),
+        Err(NoMemory) => Err(NoMemory),
+    }
 }
 
 #[tactic(auto, unfolding(crsm_base::specs::RecordReading::decide_rec_at))]
 fn take_decide(alloc: Global, bytes: &[u8]) -> Result<Option<(Rec, &[u8])>, NoMemory>
     ensures { IfOk result (λ r. option_map (λ x. (x.0, x.1.now)) r ≡ decide_rec_at bytes.now) }
 {
-    let Some((decision, rest)) = take_decision(alloc, bytes)? else {
-        return Ok(None);
-    };
-    Ok(Some((Rec::Decide { decision }, rest)))
+    match take_decision(alloc, bytes) {
+        Ok(Some((decision, rest))) => Ok(Some((Rec::Decide { decision }, rest))),
+        Ok(None) => Ok(None),
+        Err(NoMemory) => Err(NoMemory),
+    }
 }
 
 #[tactic(auto, unfolding(crsm_base::specs::RecordReading::enter_at))]

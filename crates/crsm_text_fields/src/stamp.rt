@@ -48,8 +48,12 @@ pub fn put_ballot(ballot: Ballot, out: &mut Bytes) -> Result<(), NoMemory>
 pub fn take_stamp(bytes: &[u8]) -> Option<(Stamp, &[u8])>
     ensures { option_map (λ x. (x.0, x.1.now)) result ≡ stamp_at bytes.now }
 {
-    let (time, rest) = take_u64(bytes)?;
-    let (origin, rest) = take_replica(rest)?;
+    let Some((time, rest)) = take_u64(bytes) else {
+        return None;
+    };
+    let Some((origin, rest)) = take_replica(rest) else {
+        return None;
+    };
     Some((Stamp { time, origin }, rest))
 }
 
@@ -76,7 +80,11 @@ pub fn take_option_stamp(bytes: &[u8]) -> Option<(Option<Stamp>, &[u8])>
 pub fn take_ballot(bytes: &[u8]) -> Option<(Ballot, &[u8])>
     ensures { option_map (λ x. (x.0, x.1.now)) result ≡ ballot_at bytes.now }
 {
-    let (round, rest) = take_u64(bytes)?;
-    let (by, rest) = take_replica(rest)?;
+    let Some((round, rest)) = take_u64(bytes) else {
+        return None;
+    };
+    let Some((by, rest)) = take_replica(rest) else {
+        return None;
+    };
     Some((Ballot { round, by }, rest))
 }

@@ -72,7 +72,10 @@ pub fn take_key(alloc: Global, bytes: &[u8]) -> Result<Option<(Key, &[u8])>, NoM
     if rest.len() < count {
         return Ok(None);
     }
-    Ok(Some((Key::from_prefix(alloc, rest, count)?, &rest[count..])))
+    match Key::from_prefix(alloc, rest, count) {
+        Ok(key) => Ok(Some((key, &rest[count..]))),
+        Err(NoMemory) => Err(NoMemory),
+    }
 }
 
 /// Parses a value at the beginning of `bytes`. Returns it and the remaining bytes, or `None` if they do not begin with
@@ -91,7 +94,10 @@ pub fn take_val(alloc: Global, bytes: &[u8]) -> Result<Option<(Val, &[u8])>, NoM
     if rest.len() < count {
         return Ok(None);
     }
-    Ok(Some((Val::from_prefix(alloc, rest, count)?, &rest[count..])))
+    match Val::from_prefix(alloc, rest, count) {
+        Ok(val) => Ok(Some((val, &rest[count..]))),
+        Err(NoMemory) => Err(NoMemory),
+    }
 }
 
 /// Parses an optional value at the beginning of `bytes`. Returns it and the remaining bytes, or `None` if they do
@@ -107,10 +113,11 @@ pub fn take_option_val(
         [] => Ok(None),
         [0, rest @ ..] => Ok(Some((None, rest))),
         [1, rest @ ..] => {
-            let Some((val, rest)) = take_val(alloc, rest)? else {
-                return Ok(None);
-            };
-            Ok(Some((Some(val), rest)))
+            match take_val(alloc, rest) {
+                Ok(Some((val, rest))) => Ok(Some((Some(val), rest))),
+                Ok(None) => Ok(None),
+                Err(NoMemory) => Err(NoMemory),
+            }
         }
         [_, ..] => Ok(None),
     }

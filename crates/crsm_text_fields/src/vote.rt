@@ -35,10 +35,11 @@ fn take_vote(alloc: Global, bytes: &[u8]) -> Result<Option<((Ballot, Decision), 
     let Some((ballot, rest)) = take_ballot(bytes) else {
         return Ok(None);
     };
-    let Some((decision, rest)) = take_decision(alloc, rest)? else {
-        return Ok(None);
-    };
-    Ok(Some(((ballot, decision), rest)))
+    match take_decision(alloc, rest) {
+        Ok(Some((decision, rest))) => Ok(Some(((ballot, decision), rest))),
+        Ok(None) => Ok(None),
+        Err(NoMemory) => Err(NoMemory),
+    }
 }
 
 /// Parses an optional accepted ballot and decision at the beginning of `bytes`. Returns it and the remaining bytes, or
@@ -54,10 +55,11 @@ pub fn take_option_vote(
         [] => Ok(None),
         [0, rest @ ..] => Ok(Some((None, rest))),
         [1, rest @ ..] => {
-            let Some((vote, rest)) = take_vote(alloc, rest)? else {
-                return Ok(None);
-            };
-            Ok(Some((Some(vote), rest)))
+            match take_vote(alloc, rest) {
+                Ok(Some((vote, rest))) => Ok(Some((Some(vote), rest))),
+                Ok(None) => Ok(None),
+                Err(NoMemory) => Err(NoMemory),
+            }
         }
         [_, ..] => Ok(None),
     }
