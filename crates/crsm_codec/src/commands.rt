@@ -14,9 +14,10 @@ pub fn read_key(alloc: Global, bytes: &[u8]) -> Result<Option<(Key, usize)>, NoM
     ensures none { IfOk result (λ r. IfNone r (HasNoPrefix SpeltKey bytes.now)) }
     ensures again { ReadsAgain key_bytes FitsKey bytes.now result }
 {
-    match crsm_text_fields::take_key(alloc, bytes)? {
-        Some((key, rest)) => Ok(Some((key, bytes.len() - rest.len()))),
-        None => Ok(None),
+    match crsm_text_fields::take_key(alloc, bytes) {
+        Ok(Some((key, rest))) => Ok(Some((key, bytes.len() - rest.len()))),
+        Ok(None) => Ok(None),
+        Err(NoMemory) => Err(NoMemory),
     }
 }
 
@@ -27,7 +28,10 @@ pub fn write_key(alloc: Global, key: &Key, out: &mut Bytes) -> Result<(), NoMemo
     ensures err { OnErr result (out.new ≡ out.old) }
 {
     let mut spelling = Bytes::new(alloc);
-    crsm_text_fields::put_key(key, &mut spelling)?;
+    let Ok(()) = crsm_text_fields::put_key(key, &mut spelling) else {
+        drop(spelling);
+        return Err(NoMemory);
+    };
     out.append(spelling.as_slice())
 }
 
@@ -38,9 +42,10 @@ pub fn read_val(alloc: Global, bytes: &[u8]) -> Result<Option<(Val, usize)>, NoM
     ensures none { IfOk result (λ r. IfNone r (HasNoPrefix SpeltVal bytes.now)) }
     ensures again { ReadsAgain val_bytes FitsVal bytes.now result }
 {
-    match crsm_text_fields::take_val(alloc, bytes)? {
-        Some((val, rest)) => Ok(Some((val, bytes.len() - rest.len()))),
-        None => Ok(None),
+    match crsm_text_fields::take_val(alloc, bytes) {
+        Ok(Some((val, rest))) => Ok(Some((val, bytes.len() - rest.len()))),
+        Ok(None) => Ok(None),
+        Err(NoMemory) => Err(NoMemory),
     }
 }
 
@@ -51,7 +56,10 @@ pub fn write_val(alloc: Global, val: &Val, out: &mut Bytes) -> Result<(), NoMemo
     ensures err { OnErr result (out.new ≡ out.old) }
 {
     let mut spelling = Bytes::new(alloc);
-    crsm_text_fields::put_val(val, &mut spelling)?;
+    let Ok(()) = crsm_text_fields::put_val(val, &mut spelling) else {
+        drop(spelling);
+        return Err(NoMemory);
+    };
     out.append(spelling.as_slice())
 }
 
@@ -65,9 +73,10 @@ pub fn read_option_val(
     ensures none { IfOk result (λ r. IfNone r (HasNoPrefix (Spelt (option_bytes val_bytes) (FitsOption FitsVal)) bytes.now)) }
     ensures again { ReadsAgain (option_bytes val_bytes) (FitsOption FitsVal) bytes.now result }
 {
-    match crsm_text_fields::take_option_val(alloc, bytes)? {
-        Some((val, rest)) => Ok(Some((val, bytes.len() - rest.len()))),
-        None => Ok(None),
+    match crsm_text_fields::take_option_val(alloc, bytes) {
+        Ok(Some((val, rest))) => Ok(Some((val, bytes.len() - rest.len()))),
+        Ok(None) => Ok(None),
+        Err(NoMemory) => Err(NoMemory),
     }
 }
 
@@ -78,7 +87,10 @@ pub fn write_option_val(alloc: Global, val: &Option<Val>, out: &mut Bytes) -> Re
     ensures err { OnErr result (out.new ≡ out.old) }
 {
     let mut spelling = Bytes::new(alloc);
-    crsm_text_fields::put_option_val(val, &mut spelling)?;
+    let Ok(()) = crsm_text_fields::put_option_val(val, &mut spelling) else {
+        drop(spelling);
+        return Err(NoMemory);
+    };
     out.append(spelling.as_slice())
 }
 
@@ -89,9 +101,10 @@ pub fn read_op(alloc: Global, bytes: &[u8]) -> Result<Option<(Op, usize)>, NoMem
     ensures none { IfOk result (λ r. IfNone r (HasNoPrefix SpeltOp bytes.now)) }
     ensures again { ReadsAgain op_bytes FitsOp bytes.now result }
 {
-    match crsm_text_fields::take_op(alloc, bytes)? {
-        Some((op, rest)) => Ok(Some((op, bytes.len() - rest.len()))),
-        None => Ok(None),
+    match crsm_text_fields::take_op(alloc, bytes) {
+        Ok(Some((op, rest))) => Ok(Some((op, bytes.len() - rest.len()))),
+        Ok(None) => Ok(None),
+        Err(NoMemory) => Err(NoMemory),
     }
 }
 
@@ -102,7 +115,10 @@ pub fn write_op(alloc: Global, op: &Op, out: &mut Bytes) -> Result<(), NoMemory>
     ensures err { OnErr result (out.new ≡ out.old) }
 {
     let mut spelling = Bytes::new(alloc);
-    crsm_text_fields::put_op(op, &mut spelling)?;
+    let Ok(()) = crsm_text_fields::put_op(op, &mut spelling) else {
+        drop(spelling);
+        return Err(NoMemory);
+    };
     out.append(spelling.as_slice())
 }
 
@@ -113,9 +129,10 @@ pub fn read_command(alloc: Global, bytes: &[u8]) -> Result<Option<(Command, usiz
     ensures none { IfOk result (λ r. IfNone r (HasNoPrefix SpeltCommand bytes.now)) }
     ensures again { ReadsAgain command_bytes FitsCommand bytes.now result }
 {
-    match crsm_text_fields::take_command(alloc, bytes)? {
-        Some((command, rest)) => Ok(Some((command, bytes.len() - rest.len()))),
-        None => Ok(None),
+    match crsm_text_fields::take_command(alloc, bytes) {
+        Ok(Some((command, rest))) => Ok(Some((command, bytes.len() - rest.len()))),
+        Ok(None) => Ok(None),
+        Err(NoMemory) => Err(NoMemory),
     }
 }
 
@@ -126,6 +143,9 @@ pub fn write_command(alloc: Global, command: &Command, out: &mut Bytes) -> Resul
     ensures err { OnErr result (out.new ≡ out.old) }
 {
     let mut spelling = Bytes::new(alloc);
-    crsm_text_fields::put_command(command, &mut spelling)?;
+    let Ok(()) = crsm_text_fields::put_command(command, &mut spelling) else {
+        drop(spelling);
+        return Err(NoMemory);
+    };
     out.append(spelling.as_slice())
 }

@@ -16,9 +16,10 @@ pub fn read_members(alloc: Global, bytes: &[u8]) -> Result<Option<(Members, usiz
     ensures none { IfOk result (λ r. IfNone r (HasNoPrefix SpeltMembers bytes.now)) }
     ensures again { ReadsAgain members_bytes IsMembers bytes.now result }
 {
-    match crsm_text_fields::take_members(alloc, bytes)? {
-        Some((members, rest)) => Ok(Some((members, bytes.len() - rest.len()))),
-        None => Ok(None),
+    match crsm_text_fields::take_members(alloc, bytes) {
+        Ok(Some((members, rest))) => Ok(Some((members, bytes.len() - rest.len()))),
+        Ok(None) => Ok(None),
+        Err(NoMemory) => Err(NoMemory),
     }
 }
 
@@ -28,7 +29,10 @@ pub fn write_members(alloc: Global, members: &Members, out: &mut Bytes) -> Resul
     ensures err { OnErr result (out.new ≡ out.old) }
 {
     let mut spelling = Bytes::new(alloc);
-    crsm_text_fields::put_members(members, &mut spelling)?;
+    let Ok(()) = crsm_text_fields::put_members(members, &mut spelling) else {
+        drop(spelling);
+        return Err(NoMemory);
+    };
     out.append(spelling.as_slice())
 }
 
@@ -39,9 +43,10 @@ pub fn read_decision(alloc: Global, bytes: &[u8]) -> Result<Option<(Decision, us
     ensures none { IfOk result (λ r. IfNone r (HasNoPrefix SpeltDecision bytes.now)) }
     ensures again { ReadsAgain decision_bytes FitsDecision bytes.now result }
 {
-    match crsm_text_fields::take_decision(alloc, bytes)? {
-        Some((decision, rest)) => Ok(Some((decision, bytes.len() - rest.len()))),
-        None => Ok(None),
+    match crsm_text_fields::take_decision(alloc, bytes) {
+        Ok(Some((decision, rest))) => Ok(Some((decision, bytes.len() - rest.len()))),
+        Ok(None) => Ok(None),
+        Err(NoMemory) => Err(NoMemory),
     }
 }
 
@@ -52,7 +57,10 @@ pub fn write_decision(alloc: Global, decision: &Decision, out: &mut Bytes) -> Re
     ensures err { OnErr result (out.new ≡ out.old) }
 {
     let mut spelling = Bytes::new(alloc);
-    crsm_text_fields::put_decision(decision, &mut spelling)?;
+    let Ok(()) = crsm_text_fields::put_decision(decision, &mut spelling) else {
+        drop(spelling);
+        return Err(NoMemory);
+    };
     out.append(spelling.as_slice())
 }
 
@@ -66,9 +74,10 @@ pub fn read_option_vote(
     ensures none { IfOk result (λ r. IfNone r (HasNoPrefix (Spelt (option_bytes vote_bytes) (FitsOption FitsVote)) bytes.now)) }
     ensures again { ReadsAgain (option_bytes vote_bytes) (FitsOption FitsVote) bytes.now result }
 {
-    match crsm_text_fields::take_option_vote(alloc, bytes)? {
-        Some((vote, rest)) => Ok(Some((vote, bytes.len() - rest.len()))),
-        None => Ok(None),
+    match crsm_text_fields::take_option_vote(alloc, bytes) {
+        Ok(Some((vote, rest))) => Ok(Some((vote, bytes.len() - rest.len()))),
+        Ok(None) => Ok(None),
+        Err(NoMemory) => Err(NoMemory),
     }
 }
 
@@ -84,6 +93,9 @@ pub fn write_option_vote(
     ensures err { OnErr result (out.new ≡ out.old) }
 {
     let mut spelling = Bytes::new(alloc);
-    crsm_text_fields::put_option_vote(vote, &mut spelling)?;
+    let Ok(()) = crsm_text_fields::put_option_vote(vote, &mut spelling) else {
+        drop(spelling);
+        return Err(NoMemory);
+    };
     out.append(spelling.as_slice())
 }

@@ -14,9 +14,10 @@ pub fn read_entry(alloc: Global, bytes: &[u8]) -> Result<Option<(Entry, usize)>,
     ensures none { IfOk result (λ r. IfNone r (HasNoPrefix SpeltEntry bytes.now)) }
     ensures again { ReadsAgain entry_bytes FitsEntry bytes.now result }
 {
-    match crsm_text_fields::take_entry(alloc, bytes)? {
-        Some((entry, rest)) => Ok(Some((entry, bytes.len() - rest.len()))),
-        None => Ok(None),
+    match crsm_text_fields::take_entry(alloc, bytes) {
+        Ok(Some((entry, rest))) => Ok(Some((entry, bytes.len() - rest.len()))),
+        Ok(None) => Ok(None),
+        Err(NoMemory) => Err(NoMemory),
     }
 }
 
@@ -27,7 +28,10 @@ pub fn write_entry(alloc: Global, entry: &Entry, out: &mut Bytes) -> Result<(), 
     ensures err { OnErr result (out.new ≡ out.old) }
 {
     let mut spelling = Bytes::new(alloc);
-    crsm_text_fields::put_entry(entry, &mut spelling)?;
+    let Ok(()) = crsm_text_fields::put_entry(entry, &mut spelling) else {
+        drop(spelling);
+        return Err(NoMemory);
+    };
     out.append(spelling.as_slice())
 }
 
@@ -39,9 +43,10 @@ pub fn read_entries(alloc: Global, bytes: &[u8]) -> Result<Option<(Entries, usiz
     ensures none { IfOk result (λ r. IfNone r (HasNoPrefix SpeltEntries bytes.now)) }
     ensures again { ReadsAgain entries_bytes FitsEntries bytes.now result }
 {
-    match crsm_text_fields::take_entries(alloc, bytes)? {
-        Some((entries, rest)) => Ok(Some((entries, bytes.len() - rest.len()))),
-        None => Ok(None),
+    match crsm_text_fields::take_entries(alloc, bytes) {
+        Ok(Some((entries, rest))) => Ok(Some((entries, bytes.len() - rest.len()))),
+        Ok(None) => Ok(None),
+        Err(NoMemory) => Err(NoMemory),
     }
 }
 
@@ -53,6 +58,9 @@ pub fn write_entries(alloc: Global, entries: &Entries, out: &mut Bytes) -> Resul
     ensures err { OnErr result (out.new ≡ out.old) }
 {
     let mut spelling = Bytes::new(alloc);
-    crsm_text_fields::put_entries(entries, &mut spelling)?;
+    let Ok(()) = crsm_text_fields::put_entries(entries, &mut spelling) else {
+        drop(spelling);
+        return Err(NoMemory);
+    };
     out.append(spelling.as_slice())
 }

@@ -14,9 +14,10 @@ pub fn read_answer(alloc: Global, bytes: &[u8]) -> Result<Option<(Answer, usize)
     ensures none { IfOk result (λ r. IfNone r (HasNoPrefix SpeltAnswer bytes.now)) }
     ensures again { ReadsAgain answer_bytes FitsAnswer bytes.now result }
 {
-    match crsm_text_fields::take_answer(alloc, bytes)? {
-        Some((answer, rest)) => Ok(Some((answer, bytes.len() - rest.len()))),
-        None => Ok(None),
+    match crsm_text_fields::take_answer(alloc, bytes) {
+        Ok(Some((answer, rest))) => Ok(Some((answer, bytes.len() - rest.len()))),
+        Ok(None) => Ok(None),
+        Err(NoMemory) => Err(NoMemory),
     }
 }
 
@@ -27,7 +28,10 @@ pub fn write_answer(alloc: Global, answer: &Answer, out: &mut Bytes) -> Result<(
     ensures err { OnErr result (out.new ≡ out.old) }
 {
     let mut spelling = Bytes::new(alloc);
-    crsm_text_fields::put_answer(answer, &mut spelling)?;
+    let Ok(()) = crsm_text_fields::put_answer(answer, &mut spelling) else {
+        drop(spelling);
+        return Err(NoMemory);
+    };
     out.append(spelling.as_slice())
 }
 
@@ -38,9 +42,10 @@ pub fn read_outcome(alloc: Global, bytes: &[u8]) -> Result<Option<(Outcome, usiz
     ensures none { IfOk result (λ r. IfNone r (HasNoPrefix SpeltOutcome bytes.now)) }
     ensures again { ReadsAgain outcome_bytes FitsOutcome bytes.now result }
 {
-    match crsm_text_fields::take_outcome(alloc, bytes)? {
-        Some((outcome, rest)) => Ok(Some((outcome, bytes.len() - rest.len()))),
-        None => Ok(None),
+    match crsm_text_fields::take_outcome(alloc, bytes) {
+        Ok(Some((outcome, rest))) => Ok(Some((outcome, bytes.len() - rest.len()))),
+        Ok(None) => Ok(None),
+        Err(NoMemory) => Err(NoMemory),
     }
 }
 
@@ -51,6 +56,9 @@ pub fn write_outcome(alloc: Global, outcome: &Outcome, out: &mut Bytes) -> Resul
     ensures err { OnErr result (out.new ≡ out.old) }
 {
     let mut spelling = Bytes::new(alloc);
-    crsm_text_fields::put_outcome(outcome, &mut spelling)?;
+    let Ok(()) = crsm_text_fields::put_outcome(outcome, &mut spelling) else {
+        drop(spelling);
+        return Err(NoMemory);
+    };
     out.append(spelling.as_slice())
 }

@@ -15,9 +15,10 @@ pub fn read_rec(alloc: Global, bytes: &[u8]) -> Result<Option<(Rec, usize)>, NoM
     ensures none { IfOk result (λ r. IfNone r (HasNoPrefix SpeltRec bytes.now)) }
     ensures again { ReadsAgain rec_bytes FitsRec bytes.now result }
 {
-    match crsm_text_fields::take_rec(alloc, bytes)? {
-        Some((rec, rest)) => Ok(Some((rec, bytes.len() - rest.len()))),
-        None => Ok(None),
+    match crsm_text_fields::take_rec(alloc, bytes) {
+        Ok(Some((rec, rest))) => Ok(Some((rec, bytes.len() - rest.len()))),
+        Ok(None) => Ok(None),
+        Err(NoMemory) => Err(NoMemory),
     }
 }
 
@@ -28,7 +29,10 @@ pub fn write_rec(alloc: Global, rec: &Rec, out: &mut Bytes) -> Result<(), NoMemo
     ensures err { OnErr result (out.new ≡ out.old) }
 {
     let mut spelling = Bytes::new(alloc);
-    crsm_text_fields::put_rec(rec, &mut spelling)?;
+    let Ok(()) = crsm_text_fields::put_rec(rec, &mut spelling) else {
+        drop(spelling);
+        return Err(NoMemory);
+    };
     out.append(spelling.as_slice())
 }
 
@@ -45,10 +49,18 @@ pub fn read_recs(alloc: Global, body: &[u8]) -> Result<Option<Recs>, NoMemory>
     let mut recs = Recs::new(alloc);
     let mut rest = body;
     while !rest.is_empty() {
-        let Some((rec, after)) = crsm_text_fields::take_rec(alloc, rest)? else {
+        let Ok(taken) = crsm_text_fields::take_rec(alloc, rest) else {
+            drop(recs);
+            return Err(NoMemory);
+        };
+        let Some((rec, after)) = taken else {
+            drop(recs);
             return Ok(None);
         };
-        recs.push(rec)?;
+        let Ok(()) = recs.push(rec) else {
+            drop(recs);
+            return Err(NoMemory);
+        };
         rest = after;
     }
     Ok(Some(recs))

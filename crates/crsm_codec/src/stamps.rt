@@ -27,7 +27,10 @@ pub fn write_stamp(alloc: Global, stamp: &Stamp, out: &mut Bytes) -> Result<(), 
     ensures err { OnErr result (out.new ≡ out.old) }
 {
     let mut spelling = Bytes::new(alloc);
-    crsm_text_fields::put_stamp(*stamp, &mut spelling)?;
+    let Ok(()) = crsm_text_fields::put_stamp(*stamp, &mut spelling) else {
+        drop(spelling);
+        return Err(NoMemory);
+    };
     out.append(spelling.as_slice())
 }
 
@@ -58,7 +61,10 @@ pub fn write_option_stamp(
     ensures err { OnErr result (out.new ≡ out.old) }
 {
     let mut spelling = Bytes::new(alloc);
-    crsm_text_fields::put_option_stamp(*stamp, &mut spelling)?;
+    let Ok(()) = crsm_text_fields::put_option_stamp(*stamp, &mut spelling) else {
+        drop(spelling);
+        return Err(NoMemory);
+    };
     out.append(spelling.as_slice())
 }
 
@@ -82,6 +88,9 @@ pub fn write_ballot(alloc: Global, ballot: &Ballot, out: &mut Bytes) -> Result<(
     ensures err { OnErr result (out.new ≡ out.old) }
 {
     let mut spelling = Bytes::new(alloc);
-    crsm_text_fields::put_ballot(*ballot, &mut spelling)?;
+    let Ok(()) = crsm_text_fields::put_ballot(*ballot, &mut spelling) else {
+        drop(spelling);
+        return Err(NoMemory);
+    };
     out.append(spelling.as_slice())
 }

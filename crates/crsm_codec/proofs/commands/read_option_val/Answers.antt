@@ -4,16 +4,16 @@ use Rattle.crsm_base.proofs.Fields.{option_val_parses}
 use Rattle.crsm_codec.proofs.commands.read_option_val.Goals as goal
 
 pub overflow_sub-result : goal.overflow_sub-result
-overflow_sub-result c = shorter option_val_parses c.args.bytes.now c.in-Some.val c.in-Some.rest.now (λ i. omega (arith, c.type_inv.bytes i)) (rw c.in-Some.is at c.in_ok-val.ensures)
+overflow_sub-result c = shorter option_val_parses c.args.bytes.now c.in-Ok-Some.val c.in-Ok-Some.rest.now (λ i. omega (arith, c.type_inv.bytes i)) (rw c.in-Ok-Some.field-0-is at c.in-Ok-Some.ensures)
 
-pub returns-in-Some-clause-found : goal.returns-in-Some-clause-found
-returns-in-Some-clause-found c = found_is option_val_parses c.args.bytes.now c.in-Some.val c.in-Some.rest.now (λ i. omega (arith, c.type_inv.bytes i)) (rw c.in-Some.is at c.in_ok-val.ensures)
+pub returns-in-Ok-Some-clause-found : goal.returns-in-Ok-Some-clause-found
+returns-in-Ok-Some-clause-found c = found_is option_val_parses c.args.bytes.now c.in-Ok-Some.val c.in-Ok-Some.rest.now (λ i. omega (arith, c.type_inv.bytes i)) (rw c.in-Ok-Some.field-0-is at c.in-Ok-Some.ensures)
 
-pub returns-in-None-clause-none : goal.returns-in-None-clause-none
-returns-in-None-clause-none c = none_is option_val_parses c.args.bytes.now (rw c.in-None.is at c.in_ok-val.ensures)
+pub returns-in-Ok-None-clause-none : goal.returns-in-Ok-None-clause-none
+returns-in-Ok-None-clause-none c = none_is option_val_parses c.args.bytes.now (rw c.in-Ok-None.field-0-is at c.in-Ok-None.ensures)
 
-pub returns-in-Some-clause-again : goal.returns-in-Some-clause-again
-returns-in-Some-clause-again c = again_is option_val_parses c.args.bytes.now c.in-Some.val c.in-Some.rest.now (rw c.in-Some.is at c.in_ok-val.ensures)
+pub returns-in-Ok-Some-clause-again : goal.returns-in-Ok-Some-clause-again
+returns-in-Ok-Some-clause-again c = again_is option_val_parses c.args.bytes.now c.in-Ok-Some.val c.in-Ok-Some.rest.now (rw c.in-Ok-Some.field-0-is at c.in-Ok-Some.ensures)
 
-pub returns-in-None-clause-again : goal.returns-in-None-clause-again
-returns-in-None-clause-again c = λ x rest fits is. absurd (again_none option_val_parses c.args.bytes.now (rw c.in-None.is at c.in_ok-val.ensures) x rest fits is)
+pub returns-in-Ok-None-clause-again : goal.returns-in-Ok-None-clause-again
+returns-in-Ok-None-clause-again c = λ x rest fits is. absurd (again_none option_val_parses c.args.bytes.now (rw c.in-Ok-None.field-0-is at c.in-Ok-None.ensures) x rest fits is)
