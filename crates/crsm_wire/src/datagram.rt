@@ -19,10 +19,11 @@ use std::alloc::Global;
 fn take_prepare(alloc: Global, bytes: &[u8]) -> Result<Option<(InEpoch, &[u8])>, NoMemory>
     ensures { IfOk result (λ r. option_map (λ x. (x.0, x.1.now)) r ≡ prepare_at bytes.now) }
 {
-    let Some((entry, rest)) = take_entry(alloc, bytes)? else {
-        return Ok(None);
-    };
-    Ok(Some((InEpoch::Prepare { entry }, rest)))
+    match take_entry(alloc, bytes) {
+        Ok(Some((entry, rest))) => Ok(Some((InEpoch::Prepare { entry }, rest))),
+        Ok(None) => Ok(None),
+        Err(NoMemory) => Err(NoMemory),
+    }
 }
 
 #[tactic(auto, unfolding(crsm_base::specs::MessageReading::prepare_ok_at))]
@@ -80,10 +81,14 @@ fn read_frame(alloc: Global, bytes: &[u8]) -> Result<Datagram, WireError>
     let Some((seq, rest)) = take_u64(rest) else {
         return Err(WireError::NotOne);
     };
-    let Some((payload, rest)) = take_payload(alloc, rest)? else {
+    let Ok(taken) = take_payload(alloc, rest) else {
+        return Err(WireError::NoMemory);
+    };
+    let Some((payload, rest)) = taken else {
         return Err(WireError::NotOne);
     };
     if !rest.is_empty() {
+        drop(payload);
         return Err(WireError::NotOne);
     }
     Ok(Datagram::Frame {
@@ -128,10 +133,14 @@ fn read_request(alloc: Global, bytes: &[u8]) -> Result<Datagram, WireError>
     ensures one { IfOk result (λ datagram. whole (request_at bytes.now) ≡ Some datagram) }
     ensures none { IsErrOf result WireError.NotOne → whole (request_at bytes.now) ≡ None }
 {
-    let Some((command, rest)) = take_command(alloc, bytes)? else {
+    let Ok(taken) = take_command(alloc, bytes) else {
+        return Err(WireError::NoMemory);
+    };
+    let Some((command, rest)) = taken else {
         return Err(WireError::NotOne);
     };
     if !rest.is_empty() {
+        drop(command);
         return Err(WireError::NotOne);
     }
     Ok(Datagram::Request { command })
@@ -148,10 +157,14 @@ fn read_reply(alloc: Global, bytes: &[u8]) -> Result<Datagram, WireError>
     let Some((number, rest)) = take_u64(rest) else {
         return Err(WireError::NotOne);
     };
-    let Some((outcome, rest)) = take_outcome(alloc, rest)? else {
+    let Ok(taken) = take_outcome(alloc, rest) else {
+        return Err(WireError::NoMemory);
+    };
+    let Some((outcome, rest)) = taken else {
         return Err(WireError::NotOne);
     };
     if !rest.is_empty() {
+        drop(outcome);
         return Err(WireError::NotOne);
     }
     Ok(Datagram::Reply {
@@ -166,10 +179,14 @@ fn read_operate(alloc: Global, bytes: &[u8]) -> Result<Datagram, WireError>
     ensures one { IfOk result (λ datagram. whole (operate_at bytes.now) ≡ Some datagram) }
     ensures none { IsErrOf result WireError.NotOne → whole (operate_at bytes.now) ≡ None }
 {
-    let Some((members, rest)) = take_members(alloc, bytes)? else {
+    let Ok(taken) = take_members(alloc, bytes) else {
+        return Err(WireError::NoMemory);
+    };
+    let Some((members, rest)) = taken else {
         return Err(WireError::NotOne);
     };
     if !rest.is_empty() {
+        drop(members);
         return Err(WireError::NotOne);
     }
     Ok(Datagram::Operate { members })
@@ -227,24 +244,18 @@ fn read_part(alloc: Global, bytes: &[u8]) -> Result<Datagram, WireError>
     if rest.len() < least_length(index, count) || rest.len() > greatest_length(index, count) {
         return Err(WireError::NotOne);
     }
-    Ok(Datagram::Part {
-        from,
-        to,
-        boot,
-        number,
-        index,
-        count,
-        bytes: bytes_of(alloc, rest)?,
-    })
-}
-
-fn bytes_of(alloc: Global, slice: &[u8]) -> Result<Bytes, NoMemory>
-    ensures { IfOk result (λ bytes. bytes ≡ slice.now) }
-{
-    let mut bytes = Bytes::new(alloc);
-    bytes.reserve(slice.len())?;
-    bytes.append(slice)?;
-    Ok(bytes)
+    match Bytes::from_slice(alloc, rest) {
+        Ok(bytes) => Ok(Datagram::Part {
+            from,
+            to,
+            boot,
+            number,
+            index,
+            count,
+            bytes,
+        }),
+        Err(NoMemory) => Err(WireError::NoMemory),
+    }
 }
 
 /// Parses a datagram from all of the bytes. `NotOne` if they are no datagram's encoding; `NoMemory` if memory runs out.

@@ -27,7 +27,10 @@ pub fn mark_before(alloc: Global, cluster: u64) -> Result<Bytes, NoMemory>
 {
     let mut before = Bytes::new(alloc);
     if cluster > 0 {
-        before.append(&mark(cluster))?;
+        let Ok(()) = before.append(&mark(cluster)) else {
+            drop(before);
+            return Err(NoMemory);
+        };
     }
     Ok(before)
 }

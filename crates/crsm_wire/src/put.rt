@@ -1,12 +1,12 @@
 //! Encoding of control messages and datagrams. Where a function fails, a prefix of the encoding may have been appended.
 
-ghost use Rattle.std.specs.Prelude.{◌≡◌, ◌<◌, ◌++◌, OnOk};
+ghost use Rattle.std.specs.Prelude.{◌≡◌, ◌<◌, ◌∷◌, ◌++◌, OnOk};
 ghost use Rattle.crsm_base.specs.declared.Control.{Control as ControlOnPaper};
-ghost use Rattle.crsm_base.specs.Spelling.{FitsDecision};
+ghost use Rattle.crsm_base.specs.Spelling.{u64_bytes, ballot_bytes, FitsBallot, FitsDecision};
 ghost use Rattle.crsm_base.specs.Messages.{bool_bytes, control_bytes, FitsControl, payload_bytes, FitsPayload, datagram_bytes, FitsDatagram};
 
-use crate::head::{head, put_clock_time, put_head, put_prepare_ok};
-use crsm_base::{Bytes, Control, Datagram, Decision, InEpoch, NoMemory};
+use crate::head::{head, marked, put_clock_time, put_head, put_prepare_ok};
+use crsm_base::{Ballot, Bytes, Control, Datagram, Decision, InEpoch, NoMemory};
 use crsm_text_fields::{
     put_ballot, put_command, put_decision, put_entries, put_entry, put_members, put_option_stamp,
     put_option_vote, put_outcome, put_u8, put_u32, put_u64,
@@ -16,6 +16,22 @@ fn put_bool(flag: bool, out: &mut Bytes) -> Result<(), NoMemory>
     ensures { OnOk result (out.new ≡ out.old ++ bool_bytes flag) }
 {
     if flag { put_u8(1, out) } else { put_u8(0, out) }
+}
+
+// Appends a tag byte and a number.
+fn put_tagged_u64(tag: u8, number: u64, out: &mut Bytes) -> Result<(), NoMemory>
+    ensures { OnOk result (out.new ≡ out.old ++ tag ∷ u64_bytes number) }
+{
+    out.append(&marked(tag, number))
+}
+
+// Appends a tag byte, the number of an instance and a ballot of it.
+fn put_ballot_for(tag: u8, instance: u64, ballot: Ballot, out: &mut Bytes) -> Result<(), NoMemory>
+    requires { FitsBallot ballot }
+    ensures { OnOk result (out.new ≡ out.old ++ tag ∷ (u64_bytes instance ++ ballot_bytes ballot)) }
+{
+    put_tagged_u64(tag, instance, out)?;
+    put_ballot(ballot, out)
 }
 
 /// Appends the encoding of a DECIDE message with this decision. `NoMemory` if memory runs out; a prefix may then have
@@ -37,8 +53,7 @@ pub fn put_control(control: &Control, out: &mut Bytes) -> Result<(), NoMemory>
 {
     match control {
         Control::Suspend { epoch, after } => {
-            put_u8(1, out)?;
-            put_u64(*epoch, out)?;
+            put_tagged_u64(1, *epoch, out)?;
             put_option_stamp(*after, out)
         }
         Control::SuspendOk {
@@ -49,27 +64,20 @@ pub fn put_control(control: &Control, out: &mut Bytes) -> Result<(), NoMemory>
             whole,
             entries,
         } => {
-            put_u8(2, out)?;
-            put_u64(*epoch, out)?;
+            put_tagged_u64(2, *epoch, out)?;
             put_u64(*executed, out)?;
             put_option_stamp(*last, out)?;
             put_option_stamp(*after, out)?;
             put_bool(*whole, out)?;
             put_entries(entries, out)
         }
-        Control::P1a { instance, ballot } => {
-            put_u8(3, out)?;
-            put_u64(*instance, out)?;
-            put_ballot(*ballot, out)
-        }
+        Control::P1a { instance, ballot } => { put_ballot_for(3, *instance, *ballot, out) }
         Control::P1b {
             instance,
             ballot,
             accepted,
         } => {
-            put_u8(4, out)?;
-            put_u64(*instance, out)?;
-            put_ballot(*ballot, out)?;
+            put_ballot_for(4, *instance, *ballot, out)?;
             put_option_vote(accepted, out)
         }
         Control::P1no {
@@ -77,9 +85,7 @@ pub fn put_control(control: &Control, out: &mut Bytes) -> Result<(), NoMemory>
             ballot,
             promised,
         } => {
-            put_u8(5, out)?;
-            put_u64(*instance, out)?;
-            put_ballot(*ballot, out)?;
+            put_ballot_for(5, *instance, *ballot, out)?;
             put_ballot(*promised, out)
         }
         Control::P2a {
@@ -87,20 +93,13 @@ pub fn put_control(control: &Control, out: &mut Bytes) -> Result<(), NoMemory>
             ballot,
             decision,
         } => {
-            put_u8(6, out)?;
-            put_u64(*instance, out)?;
-            put_ballot(*ballot, out)?;
+            put_ballot_for(6, *instance, *ballot, out)?;
             put_decision(decision, out)
         }
-        Control::P2b { instance, ballot } => {
-            put_u8(7, out)?;
-            put_u64(*instance, out)?;
-            put_ballot(*ballot, out)
-        }
+        Control::P2b { instance, ballot } => { put_ballot_for(7, *instance, *ballot, out) }
         Control::Decide { decision } => put_decide(decision, out),
         Control::Retrieve { known, from } => {
-            put_u8(9, out)?;
-            put_u64(*known, out)?;
+            put_tagged_u64(9, *known, out)?;
             put_u64(*from, out)
         }
         Control::Page {
@@ -108,8 +107,7 @@ pub fn put_control(control: &Control, out: &mut Bytes) -> Result<(), NoMemory>
             from,
             entries,
         } => {
-            put_u8(10, out)?;
-            put_u64(*known, out)?;
+            put_tagged_u64(10, *known, out)?;
             put_u64(*from, out)?;
             put_entries(entries, out)
         }
@@ -182,8 +180,7 @@ pub fn put_datagram(datagram: &Datagram, out: &mut Bytes) -> Result<(), NoMemory
             number,
             outcome,
         } => {
-            put_u8(5, out)?;
-            put_u64(*client, out)?;
+            put_tagged_u64(5, *client, out)?;
             put_u64(*number, out)?;
             put_outcome(outcome, out)
         }

@@ -20,10 +20,14 @@ pub fn read_control(alloc: Global, bytes: &[u8]) -> Result<Control, WireError>
     ensures none { IsErrOf result WireError.NotOne → control_of bytes.now ≡ None }
     ensures again { (control : Control) → FitsControl control → bytes.now ≡ control_bytes control → IfOk result (λ r. r ≡ control) }
 {
-    let Some((control, rest)) = take::take_control(alloc, bytes)? else {
+    let Ok(taken) = take::take_control(alloc, bytes) else {
+        return Err(WireError::NoMemory);
+    };
+    let Some((control, rest)) = taken else {
         return Err(WireError::NotOne);
     };
     if !rest.is_empty() {
+        drop(control);
         return Err(WireError::NotOne);
     }
     Ok(control)
@@ -36,7 +40,10 @@ pub fn write_control(alloc: Global, control: &Control, out: &mut Bytes) -> Resul
     ensures err { OnErr result (out.new ≡ out.old) }
 {
     let mut spelling = Bytes::new(alloc);
-    put::put_control(control, &mut spelling)?;
+    let Ok(()) = put::put_control(control, &mut spelling) else {
+        drop(spelling);
+        return Err(NoMemory);
+    };
     out.append(spelling.as_slice())
 }
 
@@ -58,6 +65,9 @@ pub fn write_datagram(alloc: Global, datagram: &Datagram, out: &mut Bytes) -> Re
     ensures err { OnErr result (out.new ≡ out.old) }
 {
     let mut spelling = Bytes::new(alloc);
-    put::put_datagram(datagram, &mut spelling)?;
+    let Ok(()) = put::put_datagram(datagram, &mut spelling) else {
+        drop(spelling);
+        return Err(NoMemory);
+    };
     out.append(spelling.as_slice())
 }

@@ -55,20 +55,21 @@ fn take_suspend_ok(alloc: Global, bytes: &[u8]) -> Result<Option<(Control, &[u8]
     let Some((whole, rest)) = take_bool(rest) else {
         return Ok(None);
     };
-    let Some((entries, rest)) = take_entries(alloc, rest)? else {
-        return Ok(None);
-    };
-    Ok(Some((
-        Control::SuspendOk {
-            epoch,
-            executed,
-            last,
-            after,
-            whole,
-            entries,
-        },
-        rest,
-    )))
+    match take_entries(alloc, rest) {
+        Ok(Some((entries, rest))) => Ok(Some((
+            Control::SuspendOk {
+                epoch,
+                executed,
+                last,
+                after,
+                whole,
+                entries,
+            },
+            rest,
+        ))),
+        Ok(None) => Ok(None),
+        Err(NoMemory) => Err(NoMemory),
+    }
 }
 
 #[tactic(auto, unfolding(crsm_base::specs::MessageReading::p1a_at))]
@@ -94,17 +95,18 @@ fn take_p1b(alloc: Global, bytes: &[u8]) -> Result<Option<(Control, &[u8])>, NoM
     let Some((ballot, rest)) = take_ballot(rest) else {
         return Ok(None);
     };
-    let Some((accepted, rest)) = take_option_vote(alloc, rest)? else {
-        return Ok(None);
-    };
-    Ok(Some((
-        Control::P1b {
-            instance,
-            ballot,
-            accepted,
-        },
-        rest,
-    )))
+    match take_option_vote(alloc, rest) {
+        Ok(Some((accepted, rest))) => Ok(Some((
+            Control::P1b {
+                instance,
+                ballot,
+                accepted,
+            },
+            rest,
+        ))),
+        Ok(None) => Ok(None),
+        Err(NoMemory) => Err(NoMemory),
+    }
 }
 
 #[tactic(auto, unfolding(crsm_base::specs::MessageReading::p1no_at))]
@@ -140,17 +142,18 @@ fn take_p2a(alloc: Global, bytes: &[u8]) -> Result<Option<(Control, &[u8])>, NoM
     let Some((ballot, rest)) = take_ballot(rest) else {
         return Ok(None);
     };
-    let Some((decision, rest)) = take_decision(alloc, rest)? else {
-        return Ok(None);
-    };
-    Ok(Some((
-        Control::P2a {
-            instance,
-            ballot,
-            decision,
-        },
-        rest,
-    )))
+    match take_decision(alloc, rest) {
+        Ok(Some((decision, rest))) => Ok(Some((
+            Control::P2a {
+                instance,
+                ballot,
+                decision,
+            },
+            rest,
+        ))),
+        Ok(None) => Ok(None),
+        Err(NoMemory) => Err(NoMemory),
+    }
 }
 
 #[tactic(auto, unfolding(crsm_base::specs::MessageReading::p2b_at))]
@@ -170,10 +173,11 @@ fn take_p2b(_alloc: Global, bytes: &[u8]) -> Result<Option<(Control, &[u8])>, No
 fn take_decide(alloc: Global, bytes: &[u8]) -> Result<Option<(Control, &[u8])>, NoMemory>
     ensures { IfOk result (λ r. option_map (λ x. (x.0, x.1.now)) r ≡ decide_at bytes.now) }
 {
-    let Some((decision, rest)) = take_decision(alloc, bytes)? else {
-        return Ok(None);
-    };
-    Ok(Some((Control::Decide { decision }, rest)))
+    match take_decision(alloc, bytes) {
+        Ok(Some((decision, rest))) => Ok(Some((Control::Decide { decision }, rest))),
+        Ok(None) => Ok(None),
+        Err(NoMemory) => Err(NoMemory),
+    }
 }
 
 #[tactic(auto, unfolding(crsm_base::specs::MessageReading::retrieve_at))]
@@ -199,17 +203,18 @@ fn take_page(alloc: Global, bytes: &[u8]) -> Result<Option<(Control, &[u8])>, No
     let Some((from, rest)) = take_u64(rest) else {
         return Ok(None);
     };
-    let Some((entries, rest)) = take_entries(alloc, rest)? else {
-        return Ok(None);
-    };
-    Ok(Some((
-        Control::Page {
-            known,
-            from,
-            entries,
-        },
-        rest,
-    )))
+    match take_entries(alloc, rest) {
+        Ok(Some((entries, rest))) => Ok(Some((
+            Control::Page {
+                known,
+                from,
+                entries,
+            },
+            rest,
+        ))),
+        Ok(None) => Ok(None),
+        Err(NoMemory) => Err(NoMemory),
+    }
 }
 
 /// Parses a control message at the beginning of `bytes`. Returns it and the remaining bytes, or `None` if they do not
