@@ -20,7 +20,7 @@ pub fn first_replicas(n: u32) -> &'static [u32]
 pub fn is_among(replicas: &[u32], replica: u32) -> bool
     ensures { result ≡ has replicas.now replica }
 {
-    replicas.iter().any(|other| *other == replica)
+    replicas.contains(&replica)
 }
 
 /// Returns whether all of `replicas` are among `others`.
