@@ -17,7 +17,6 @@ use std::alloc::Global;
 use std::marker::Model;
 
 /// A disk in memory. It specifies its calls, fails at listed ones, and can be stopped.
-#[derive(Drop)]
 pub struct MemDisk {
     alloc: Global,
     bytes: Vec<u8>,
@@ -31,6 +30,25 @@ pub struct MemDisk {
     room_calls: u64,
     room_bytes: u64,
     renewed: Option<u64>,
+}
+
+// Written by hand, it is one call for the crates above, which would prove a derived one again.
+impl Drop for MemDisk {
+    fn drop(self) {
+        let MemDisk {
+            alloc: _,
+            bytes: _,
+            unsynced: _,
+            past: _,
+            failures: _,
+            stop: _,
+            fill: _,
+            faults: _,
+            room_calls: _,
+            room_bytes: _,
+            renewed: _,
+        } = self;
+    }
 }
 
 impl Model for MemDisk {

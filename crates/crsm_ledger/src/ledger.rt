@@ -24,7 +24,6 @@ use std::alloc::Global;
 
 /// The state that the records of a replica's log lead to. After `NoMemory` the ledger is spent, and its fields are
 /// unspecified.
-#[derive(Drop)]
 pub struct Ledger {
     pub(crate) alloc: Global,
     pub(crate) me: u32,
@@ -42,6 +41,28 @@ pub struct Ledger {
     pub(crate) promised: PromisedBallot,
     pub(crate) accepted: AcceptedVote,
     pub(crate) held: HeldEntries,
+}
+
+// Written by hand, it is one call for the crates above, which would prove a derived one again.
+impl Drop for Ledger {
+    fn drop(self) {
+        let Ledger {
+            alloc: _,
+            me: _,
+            n: _,
+            founders: _,
+            is_spent: _,
+            boots: _,
+            known: _,
+            start: _,
+            is_live: _,
+            is_suspended: _,
+            has_entered: _,
+            promised: _,
+            accepted: _,
+            held: _,
+        } = self;
+    }
 }
 
 /// The promise before any ballot was promised.

@@ -33,7 +33,6 @@ fn execute_known(
 }
 
 /// The state that the records of a log lead to. After an error its fields are unspecified.
-#[derive(Drop)]
 pub struct MpLedger {
     pub(crate) alloc: Global,
     pub(crate) boots: u64,
@@ -44,6 +43,20 @@ pub struct MpLedger {
     pub(crate) chosen: BySlot<Option<SharedCommand>>,
     /// The executed slots: all up to the first whose value is not known.
     pub(crate) executions: Executions,
+}
+
+// Written by hand, it is one call for the crates above, which would prove a derived one again.
+impl Drop for MpLedger {
+    fn drop(self) {
+        let MpLedger {
+            alloc: _,
+            boots: _,
+            promised: _,
+            accepted: _,
+            chosen: _,
+            executions: _,
+        } = self;
+    }
 }
 
 impl MpLedger {

@@ -17,9 +17,15 @@ pub struct MpAccepted {
 }
 
 /// A list of the values that a replica has accepted from a slot on, by slot.
-#[derive(Drop)]
 pub struct MpAccepts {
     items: Rc<Vec<MpAccepted>>,
+}
+
+// Written by hand, it is one call for the crates above, which would prove a derived one again.
+impl Drop for MpAccepts {
+    fn drop(self) {
+        let MpAccepts { items: _ } = self;
+    }
 }
 
 impl Model for MpAccepts {

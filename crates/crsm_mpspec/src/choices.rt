@@ -16,9 +16,15 @@ pub struct MpChosen {
 }
 
 /// A list of the values that a replica knows to be chosen from a slot on, by slot.
-#[derive(Drop)]
 pub struct MpChoices {
     items: Rc<Vec<MpChosen>>,
+}
+
+// Written by hand, it is one call for the crates above, which would prove a derived one again.
+impl Drop for MpChoices {
+    fn drop(self) {
+        let MpChoices { items: _ } = self;
+    }
 }
 
 impl Model for MpChoices {

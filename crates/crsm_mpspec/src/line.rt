@@ -15,7 +15,6 @@ pub enum MpKind {
 }
 
 /// A line of the transcript, without its line number.
-#[derive(Drop)]
 pub enum MpLine {
     /// A boot, with the number of boots of the replica.
     Boot {
@@ -101,4 +100,81 @@ pub enum MpLine {
         up: bool,
         executed: u64,
     },
+}
+
+// Written by hand, it is one call for the crates above, which would prove a derived one again.
+impl Drop for MpLine {
+    fn drop(self) {
+        match self {
+            MpLine::Boot {
+                replica: _,
+                count: _,
+            } => {}
+            MpLine::Submit {
+                replica: _,
+                slot: _,
+                round: _,
+                by: _,
+                client: _,
+                number: _,
+            } => {}
+            MpLine::Accept {
+                replica: _,
+                slot: _,
+                round: _,
+                by: _,
+            } => {}
+            MpLine::Promise {
+                replica: _,
+                round: _,
+                by: _,
+            } => {}
+            MpLine::Choose {
+                replica: _,
+                slot: _,
+            } => {}
+            MpLine::Exec {
+                replica: _,
+                slot: _,
+                client: _,
+                number: _,
+                answer: _,
+            } => {}
+            MpLine::ExecNoop {
+                replica: _,
+                slot: _,
+            } => {}
+            MpLine::Send {
+                index: _,
+                from: _,
+                to: _,
+                kind: _,
+            } => {}
+            MpLine::ReplyOk {
+                replica: _,
+                client: _,
+                number: _,
+                place: _,
+                answer: _,
+            } => {}
+            MpLine::ReplyNo {
+                replica: _,
+                client: _,
+                number: _,
+                code: _,
+            } => {}
+            MpLine::ReplyDropped {
+                replica: _,
+                client: _,
+                number: _,
+                slot: _,
+            } => {}
+            MpLine::Down { replica: _ } => {}
+            MpLine::Final {
+                replica: _,
+                up: _,
+                executed: _,
+            } => {}
+        }
+    }
 }

@@ -9,7 +9,6 @@ use crate::value::share_value;
 use crsm_base::{Ballot, NoMemory};
 
 /// A message from one replica to another.
-#[derive(Drop)]
 pub enum MpMessage {
     /// Asks for a promise of the ballot, and for all values accepted or chosen from a slot on.
     Prep {
@@ -46,6 +45,32 @@ pub enum MpMessage {
     Ask {
         start: u64,
     },
+}
+
+// Written by hand, it is one call for the crates above, which would prove a derived one again.
+impl Drop for MpMessage {
+    fn drop(self) {
+        match self {
+            MpMessage::Prep {
+                ballot: _,
+                start: _,
+            } => {}
+            MpMessage::Prom {
+                ballot: _,
+                accepted: _,
+                chosen: _,
+            } => {}
+            MpMessage::No { promised: _ } => {}
+            MpMessage::Acc {
+                ballot: _,
+                slot: _,
+                value: _,
+            } => {}
+            MpMessage::Accd { ballot: _, slot: _ } => {}
+            MpMessage::Learn { slot: _, value: _ } => {}
+            MpMessage::Ask { start: _ } => {}
+        }
+    }
 }
 
 impl MpMessage {

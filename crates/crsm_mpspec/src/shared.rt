@@ -17,9 +17,15 @@ struct Encoded {
 
 /// A command that is kept and encoded once for all its owners: records, messages and replicas. A contract sees the
 /// command.
-#[derive(Drop)]
 pub struct SharedCommand {
     encoded: Rc<Encoded>,
+}
+
+// Written by hand, it is one call for the crates above, which would prove a derived one again.
+impl Drop for SharedCommand {
+    fn drop(self) {
+        let SharedCommand { encoded: _ } = self;
+    }
 }
 
 impl Model for SharedCommand {

@@ -33,10 +33,19 @@ pub enum Accepted {
 
 /// The promise of one replica in an instance, and the decision that it accepted. No call allocates. A library type: a
 /// replica reads its own promise from its log (`crsm_replica_reconfigure`, promising).
-#[derive(Drop)]
 pub struct Acceptor {
     promised: Ballot,
     accepted: Option<(Ballot, Decision)>,
+}
+
+// Written by hand, it is one call for the crates above, which would prove a derived one again.
+impl Drop for Acceptor {
+    fn drop(self) {
+        let Acceptor {
+            promised: _,
+            accepted: _,
+        } = self;
+    }
 }
 
 impl Model for Acceptor {

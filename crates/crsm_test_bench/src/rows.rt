@@ -52,7 +52,7 @@ fn finds(store: &mut Store, client: u32, number: u64, op: Op) -> Result<bool, No
         op,
     };
     let answer = store.apply(&command)?;
-    Ok(matches!(answer, Answer::Found(_)))
+    Ok(matches!(&answer, Answer::Found(_)))
 }
 
 /// Applies the first command of a client, which sets its key.

@@ -24,11 +24,11 @@ fn action_of(word: &str) -> Result<Action, Fault> {
 }
 
 /// Returns the key of a look.
-fn key_of(op: Op) -> Result<Key, Fault>
-    ensures { IfOk result (λ key. op ≡ Op.Get key) }
+fn key_of(alloc: Global, op: &Op) -> Result<Key, Fault>
+    ensures { IfOk result (λ key. op.now ≡ Op.Get key) }
 {
     match op {
-        Op::Get(key) => Ok(key),
+        Op::Get(key) => Ok(key.copy(alloc)?),
         _ => Err(Fault::Unreadable),
     }
 }
@@ -40,16 +40,16 @@ fn order_of(alloc: Global, to: u64, turns: u64, words: &str) -> Result<Box<LockO
 {
     let (action, look) = parted(words)?;
     let action = action_of(action)?;
-    let Command { client, number, op } = command_of(alloc, look)?;
-    let key = key_of(op)?;
-    if number == u64::MAX {
+    let command = command_of(alloc, look)?;
+    let key = key_of(alloc, &command.op)?;
+    if command.number == u64::MAX {
         return Err(Fault::Unreadable);
     }
     let order = LockOrder {
         to,
         turns,
-        client,
-        number,
+        client: command.client,
+        number: command.number,
         key,
         action,
     };
