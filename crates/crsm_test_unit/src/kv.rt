@@ -60,7 +60,8 @@ fn fill(alloc: Global, store: &mut Store) -> Result<(), NoMemory> {
 /// Whether the step's change is done where it has room, and else has none.
 fn is_served(alloc: Global, store: &mut Store, step: &Step) -> Result<bool, NoMemory> {
     let (client, number, change, has_room, _) = *step;
-    match ask(store, client, number, op(alloc, change)?)? {
+    let answer = ask(store, client, number, op(alloc, change)?)?;
+    match &answer {
         Answer::Done => Ok(has_room),
         Answer::NoRoom => Ok(!has_room),
         _ => Ok(false),
