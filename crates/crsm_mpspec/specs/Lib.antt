@@ -1,7 +1,9 @@
 pub mod Types
 pub mod Log
 pub mod Values
+pub mod Shared
 pub mod Replica
+pub mod Sends
 pub mod Draft
 pub mod Electing
 pub mod Deciding

@@ -2,7 +2,7 @@
 
 ghost use Rattle.std.specs.Prelude.{◌≡◌, IfOk};
 
-use crate::shared::SharedCommand;
+use crate::shared::SharedValue;
 use crsm_base::{Ballot, NoMemory};
 use std::alloc::Global;
 use std::marker::Model;
@@ -13,7 +13,7 @@ use std::rc::Rc;
 pub struct MpAccepted {
     pub slot: u64,
     pub ballot: Ballot,
-    pub value: Option<SharedCommand>,
+    pub value: SharedValue,
 }
 
 /// A list of the values that a replica has accepted from a slot on, by slot.

@@ -2,7 +2,7 @@
 
 ghost use Rattle.std.specs.Prelude.{◌≡◌, IfOk};
 
-use crate::shared::SharedCommand;
+use crate::shared::SharedValue;
 use crsm_base::NoMemory;
 use std::alloc::Global;
 use std::marker::Model;
@@ -12,7 +12,7 @@ use std::rc::Rc;
 #[derive(Drop)]
 pub struct MpChosen {
     pub slot: u64,
-    pub value: Option<SharedCommand>,
+    pub value: SharedValue,
 }
 
 /// A list of the values that a replica knows to be chosen from a slot on, by slot.

@@ -1,12 +1,9 @@
 //! The messages between replicas, which are values and have no bytes.
 
-ghost use Rattle.std.specs.Prelude.{◌≡◌, IfOk};
-
 use crate::accepts::MpAccepts;
 use crate::choices::MpChoices;
-use crate::shared::SharedCommand;
-use crate::value::share_value;
-use crsm_base::{Ballot, NoMemory};
+use crate::shared::SharedValue;
+use crsm_base::Ballot;
 
 /// A message from one replica to another.
 pub enum MpMessage {
@@ -29,7 +26,7 @@ pub enum MpMessage {
     Acc {
         ballot: Ballot,
         slot: u64,
-        value: Option<SharedCommand>,
+        value: SharedValue,
     },
     /// Votes: the sender has accepted at the slot in this ballot.
     Accd {
@@ -39,7 +36,7 @@ pub enum MpMessage {
     /// Reports the chosen value of a slot.
     Learn {
         slot: u64,
-        value: Option<SharedCommand>,
+        value: SharedValue,
     },
     /// Asks for the executed values from a slot on.
     Ask {
@@ -69,50 +66,6 @@ impl Drop for MpMessage {
             MpMessage::Accd { ballot: _, slot: _ } => {}
             MpMessage::Learn { slot: _, value: _ } => {}
             MpMessage::Ask { start: _ } => {}
-        }
-    }
-}
-
-impl MpMessage {
-    /// Returns a copy. `NoMemory` if memory runs out.
-    pub fn copy(&self) -> Result<MpMessage, NoMemory>
-        ensures { IfOk result (λ copy. copy ≡ self.now) }
-    {
-        match self {
-            MpMessage::Prep { ballot, start } => Ok(MpMessage::Prep {
-                ballot: *ballot,
-                start: *start,
-            }),
-            MpMessage::Prom {
-                ballot,
-                accepted,
-                chosen,
-            } => Ok(MpMessage::Prom {
-                ballot: *ballot,
-                accepted: accepted.share()?,
-                chosen: chosen.share()?,
-            }),
-            MpMessage::No { promised } => Ok(MpMessage::No {
-                promised: *promised,
-            }),
-            MpMessage::Acc {
-                ballot,
-                slot,
-                value,
-            } => Ok(MpMessage::Acc {
-                ballot: *ballot,
-                slot: *slot,
-                value: share_value(value)?,
-            }),
-            MpMessage::Accd { ballot, slot } => Ok(MpMessage::Accd {
-                ballot: *ballot,
-                slot: *slot,
-            }),
-            MpMessage::Learn { slot, value } => Ok(MpMessage::Learn {
-                slot: *slot,
-                value: share_value(value)?,
-            }),
-            MpMessage::Ask { start } => Ok(MpMessage::Ask { start: *start }),
         }
     }
 }

@@ -1,6 +1,6 @@
 //! The records of a log.
 
-use crate::shared::SharedCommand;
+use crate::shared::SharedValue;
 use crsm_base::Ballot;
 
 /// A record of a replica's log.
@@ -16,11 +16,11 @@ pub enum MpRec {
     Accept {
         slot: u64,
         ballot: Ballot,
-        value: Option<SharedCommand>,
+        value: SharedValue,
     },
     /// The value of a slot is known to be chosen.
     Choose {
         slot: u64,
-        value: Option<SharedCommand>,
+        value: SharedValue,
     },
 }

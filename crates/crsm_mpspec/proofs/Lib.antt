@@ -1,0 +1,2 @@
+mod ReceiverLemmas
+mod SendLemmas
