@@ -9,7 +9,7 @@ ghost use Rattle.crsm_mpledger.specs.Executed.{ExecutionsStand, WhereExecuted, e
 
 use crsm_base::{Answer, NoMemory};
 use crsm_kv::Store;
-use crsm_mpspec::SharedCommand;
+use crsm_mpspec::SharedValue;
 use std::alloc::Global;
 
 /// The execution of a slot.
@@ -100,27 +100,22 @@ impl Executions {
 
     /// Executes this slot, which is the next one. `NoMemory` if memory runs out.
     #[tactic(auto, unfolding(crsm_mpspec::specs::Values::rows_after, crsm_mpspec::specs::Values::apply_value, crsm_mpspec::specs::Values::answer_after))]
-    pub(crate) fn execute(
-        &mut self,
-        slot: u64,
-        value: &Option<SharedCommand>,
-    ) -> Result<(), NoMemory>
+    pub(crate) fn execute(&mut self, slot: u64, value: &SharedValue) -> Result<(), NoMemory>
         requires { slot < u64_max }
         ensures stands { OnOk result (WhereExecuted self.old (λ values. slot ≡ length values → ExecutionsStand self.new (values ++ value.now ∷ []))) }
         ensures first { OnOk result (self.new.first ≡ self.old.first) }
     {
         self.count = slot + 1;
-        match value {
+        match value.get() {
             None => {
                 self.slots.push(Execution::Noop)?;
                 Ok(())
             }
             Some(command) => {
-                let own = command.get();
-                let answer = self.store.apply(own)?;
+                let answer = self.store.apply(command)?;
                 self.slots.push(Execution::Applied {
-                    client: own.client,
-                    number: own.number,
+                    client: command.client,
+                    number: command.number,
                     answer,
                 })?;
                 Ok(())

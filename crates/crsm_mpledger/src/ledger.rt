@@ -11,14 +11,11 @@ ghost use Rattle.crsm_mpledger.specs.Sound.{IsSound, MayFollow};
 use crate::by_slot::BySlot;
 use crate::executions::Executions;
 use crsm_base::{Ballot, NoMemory};
-use crsm_mpspec::{MpRec, SharedCommand, share_value};
+use crsm_mpspec::{MpRec, SharedValue};
 use std::alloc::Global;
 
 /// Executes the slots after the executed ones, up to the first whose value is not known.
-fn execute_known(
-    chosen: &BySlot<Option<SharedCommand>>,
-    executions: &mut Executions,
-) -> Result<(), NoMemory>
+fn execute_known(chosen: &BySlot<SharedValue>, executions: &mut Executions) -> Result<(), NoMemory>
     ensures stands { OnOk result ((log : Log) → IsSound log → SlotsStand chosen.now (by_slot (choices log)) → (done : ℕ) → length (run_from done 0 log) ≡ done →
         ExecutionsStand executions.old (run_from done 0 log) → ExecutionsStand executions.new (executed log)) }
     ensures first { OnOk result (executions.new.first ≡ executions.old.first) }
@@ -38,9 +35,9 @@ pub struct MpLedger {
     pub(crate) boots: u64,
     pub(crate) promised: Ballot,
     /// The value accepted last at each slot, with its ballot.
-    pub(crate) accepted: BySlot<(Ballot, Option<SharedCommand>)>,
+    pub(crate) accepted: BySlot<(Ballot, SharedValue)>,
     /// The value of each slot that is known to be chosen.
-    pub(crate) chosen: BySlot<Option<SharedCommand>>,
+    pub(crate) chosen: BySlot<SharedValue>,
     /// The executed slots: all up to the first whose value is not known.
     pub(crate) executions: Executions,
 }
@@ -101,12 +98,7 @@ impl MpLedger {
     }
 
     /// Records the acceptance of a value, and the promise of its ballot.
-    fn accept(
-        &mut self,
-        slot: u64,
-        ballot: Ballot,
-        value: Option<SharedCommand>,
-    ) -> Result<(), NoMemory>
+    fn accept(&mut self, slot: u64, ballot: Ballot, value: SharedValue) -> Result<(), NoMemory>
         ensures stands { OnOk result (WhereLedger self.old (λ log. MayFollow log (Record.Accept slot ballot value) → MpLedgerStands self.new (Record.Accept slot ballot value ∷ log))) }
         ensures kept { OnOk result (first_kept self.new ≡ first_kept self.old) }
     {
@@ -116,7 +108,7 @@ impl MpLedger {
     }
 
     /// Records the chosen value of a slot, and executes it and its successors once all before it are executed.
-    fn choose(&mut self, slot: u64, value: Option<SharedCommand>) -> Result<(), NoMemory>
+    fn choose(&mut self, slot: u64, value: SharedValue) -> Result<(), NoMemory>
         ensures stands { OnOk result (WhereLedger self.old (λ log. MayFollow log (Record.Choose slot value) → MpLedgerStands self.new (Record.Choose slot value ∷ log))) }
         ensures kept { OnOk result (first_kept self.new ≡ first_kept self.old) }
     {
@@ -145,12 +137,12 @@ impl MpLedger {
                 ballot,
                 value,
             } => {
-                let value = share_value(value)?;
+                let value = value.share()?;
                 self.accept(*slot, *ballot, value)?;
                 Ok(())
             }
             MpRec::Choose { slot, value } => {
-                let value = share_value(value)?;
+                let value = value.share()?;
                 self.choose(*slot, value)?;
                 Ok(())
             }

@@ -19,4 +19,4 @@ pub use executions::Execution;
 pub use laws::{executed_slots_grow, executions_are_by_slot};
 pub use ledger::MpLedger;
 pub use rec::{put_rec, take_rec};
-pub use value::share_command;
+pub use value::{share_command, share_noop};

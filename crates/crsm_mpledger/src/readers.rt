@@ -11,7 +11,7 @@ ghost use Rattle.crsm_mpledger.specs.MpLedger.{WhereLedger, first_kept};
 use crate::executions::Execution;
 use crate::ledger::MpLedger;
 use crsm_base::{Answer, Ballot, NoMemory};
-use crsm_mpspec::SharedCommand;
+use crsm_mpspec::SharedValue;
 
 impl MpLedger {
     /// Returns the number of boots of the replica.
@@ -29,7 +29,7 @@ impl MpLedger {
     }
 
     /// Returns the value accepted last at a slot, with its ballot, or `None` if none was.
-    pub fn accepted(&self, slot: u64) -> Option<&(Ballot, Option<SharedCommand>)>
+    pub fn accepted(&self, slot: u64) -> Option<&(Ballot, SharedValue)>
         ensures { WhereLedger self.now (λ log. option_copied result ≡ logs.accepted_at slot log) }
     {
         self.accepted.get(slot)
@@ -50,7 +50,7 @@ impl MpLedger {
     }
 
     /// Returns the value at a slot, or `None` if it is not executed.
-    pub fn executed(&self, slot: u64) -> Option<&Option<SharedCommand>>
+    pub fn executed(&self, slot: u64) -> Option<&SharedValue>
         ensures { WhereLedger self.now (λ log. option_copied result ≡ slice_get (logs.executed log) slot) }
     {
         if slot < self.executions.len() {

@@ -9,66 +9,54 @@ ghost use Rattle.crsm_mpledger.specs.Reading.{promise_at, accept_at, choose_at, 
 
 use crate::value::take_value;
 use crsm_base::{Ballot, Bytes, NoMemory};
-use crsm_mpspec::{MpRec, SharedCommand};
+use crsm_mpspec::{MpRec, SharedValue};
 use crsm_text_fields::{put_ballot, put_u8, take_ballot, take_u8, take_u64};
 use std::alloc::Global;
 
-/// Encodes the kind of a record, its slot, and the tag of its value.
+/// Encodes the kind of a record and its slot.
 #[tactic(auto, unfolding(crsm_base::specs::Spelling::u64_bytes))]
-fn slot_head(kind: u8, slot: u64, tag: u8) -> [u8; 10]
-    ensures { result ≡ kind ∷ (u64_bytes slot ++ tag ∷ []) }
+fn slot_head(kind: u8, slot: u64) -> [u8; 9]
+    ensures { result ≡ kind ∷ u64_bytes slot }
 {
-    let mut cells = [kind; 10];
+    let mut cells = [kind; 9];
     cells[1..9].copy_from_slice(&slot.to_be_bytes());
-    cells[9] = tag;
     cells
 }
 
-/// Encodes the same with a ballot between the slot and the tag.
+/// Encodes the kind of a record, its slot and its ballot.
 #[tactic(auto, unfolding(crsm_base::specs::Spelling::u64_bytes, crsm_base::specs::Spelling::ballot_bytes))]
-fn ballot_head(kind: u8, slot: u64, ballot: Ballot, tag: u8) -> [u8; 19]
+fn ballot_head(kind: u8, slot: u64, ballot: Ballot) -> [u8; 18]
     requires { FitsBallot ballot }
-    ensures { result ≡ kind ∷ (u64_bytes slot ++ (ballot_bytes ballot ++ tag ∷ [])) }
+    ensures { result ≡ kind ∷ (u64_bytes slot ++ ballot_bytes ballot) }
 {
-    let mut cells = [kind; 19];
+    let mut cells = [kind; 18];
     cells[1..9].copy_from_slice(&slot.to_be_bytes());
     cells[9..17].copy_from_slice(&ballot.round.to_be_bytes());
     cells[17] = ballot.by as u8;
-    cells[18] = tag;
     cells
 }
 
-// The fields before a command have a fixed length, so that they are appended by a single call.
+// The fields before a value have a fixed length, so that they are appended by a single call.
 #[tactic(auto, unfolding(crsm_mpspec::specs::Records::rec_bytes))]
 fn put_accept(
     slot: u64,
     ballot: Ballot,
-    value: &Option<SharedCommand>,
+    value: &SharedValue,
     out: &mut Bytes,
 ) -> Result<(), NoMemory>
     requires { FitsBallot ballot }
     ensures { OnOk result (out.new ≡ out.old ++ rec_bytes (Record.Accept slot ballot value.now)) }
 {
-    match value {
-        None => out.append(&ballot_head(3, slot, ballot, 0)),
-        Some(command) => {
-            out.append(&ballot_head(3, slot, ballot, 1))?;
-            out.append(command.as_bytes())
-        }
-    }
+    out.append(&ballot_head(3, slot, ballot))?;
+    out.append(value.as_bytes())
 }
 
 #[tactic(auto, unfolding(crsm_mpspec::specs::Records::rec_bytes))]
-fn put_choose(slot: u64, value: &Option<SharedCommand>, out: &mut Bytes) -> Result<(), NoMemory>
+fn put_choose(slot: u64, value: &SharedValue, out: &mut Bytes) -> Result<(), NoMemory>
     ensures { OnOk result (out.new ≡ out.old ++ rec_bytes (Record.Choose slot value.now)) }
 {
-    match value {
-        None => out.append(&slot_head(4, slot, 0)),
-        Some(command) => {
-            out.append(&slot_head(4, slot, 1))?;
-            out.append(command.as_bytes())
-        }
-    }
+    out.append(&slot_head(4, slot))?;
+    out.append(value.as_bytes())
 }
 
 /// Appends the encoding of a record. `NoMemory` if memory runs out.

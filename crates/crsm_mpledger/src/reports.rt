@@ -6,7 +6,7 @@ ghost use Rattle.crsm_mpledger.specs.MpLedger.{WhereLedger};
 
 use crate::ledger::MpLedger;
 use crsm_base::NoMemory;
-use crsm_mpspec::{MpAccepted, MpAccepts, MpChoices, MpChosen, share_value};
+use crsm_mpspec::{MpAccepted, MpAccepts, MpChoices, MpChosen};
 
 impl MpLedger {
     /// Returns the value accepted last at each slot from `start` on, by slot. `NoMemory` if memory runs out.
@@ -21,14 +21,14 @@ impl MpLedger {
             accepts.push(MpAccepted {
                 slot,
                 ballot: *ballot,
-                value: share_value(value)?,
+                value: value.share()?,
             })?;
         }
         for (slot, (ballot, value)) in self.accepted.beyond().range(start..) {
             accepts.push(MpAccepted {
                 slot: *slot,
                 ballot: *ballot,
-                value: share_value(value)?,
+                value: value.share()?,
             })?;
         }
         let list = MpAccepts::new(self.alloc, accepts)?;
@@ -46,13 +46,13 @@ impl MpLedger {
             let value = &first[slot as usize];
             choices.push(MpChosen {
                 slot,
-                value: share_value(value)?,
+                value: value.share()?,
             })?;
         }
         for (slot, value) in self.chosen.beyond().range(start..) {
             choices.push(MpChosen {
                 slot: *slot,
-                value: share_value(value)?,
+                value: value.share()?,
             })?;
         }
         let list = MpChoices::new(self.alloc, choices)?;

@@ -1,4 +1,4 @@
-//! The value of a slot, read back from bytes: a command, or nothing if the slot is a noop.
+//! Values of slots, made from commands or read back from bytes.
 
 ghost use Rattle.std.specs.Prelude.{◌≡◌, IfOk};
 ghost use Rattle.std.specs.Option.{option_map};
@@ -7,7 +7,7 @@ ghost use Rattle.crsm_base.specs.Spelling.{FitsCommand};
 ghost use Rattle.crsm_mpledger.specs.Reading.{value_at};
 
 use crsm_base::{Bytes, Command, NoMemory};
-use crsm_mpspec::SharedCommand;
+use crsm_mpspec::{SharedCommand, SharedValue};
 use crsm_text_fields::{put_command, take_command};
 use std::alloc::Global;
 
@@ -17,8 +17,18 @@ pub fn share_command(alloc: Global, command: Command) -> Result<SharedCommand, N
     ensures { IfOk result (λ shared. shared ≡ command) }
 {
     let mut bytes = Bytes::new(alloc);
+    bytes.push(1)?;
     put_command(&command, &mut bytes)?;
     SharedCommand::new(alloc, command, bytes)
+}
+
+/// Returns the value of a noop of one owner. `NoMemory` if memory runs out.
+pub fn share_noop(alloc: Global) -> Result<SharedValue, NoMemory>
+    ensures { IfOk result (λ shared. shared ≡ None) }
+{
+    let mut bytes = Bytes::new(alloc);
+    bytes.push(0)?;
+    SharedValue::new(alloc, None, bytes)
 }
 
 /// Parses a command from the prefix of the bytes, and returns it with the bytes after it. `None` if none begins there;
@@ -38,17 +48,17 @@ fn take_shared(alloc: Global, bytes: &[u8]) -> Result<Option<(SharedCommand, &[u
 pub(crate) fn take_value(
     alloc: Global,
     bytes: &[u8],
-) -> Result<Option<(Option<SharedCommand>, &[u8])>, NoMemory>
+) -> Result<Option<(SharedValue, &[u8])>, NoMemory>
     ensures { IfOk result (λ r. option_map (λ x. (x.0, x.1.now)) r ≡ value_at bytes.now) }
 {
     match bytes {
         [] => Ok(None),
-        [0, rest @ ..] => Ok(Some((None, rest))),
+        [0, rest @ ..] => Ok(Some((share_noop(alloc)?, rest))),
         [1, rest @ ..] => {
             let Some((command, rest)) = take_shared(alloc, rest)? else {
                 return Ok(None);
             };
-            Ok(Some((Some(command), rest)))
+            Ok(Some((command.to_value()?, rest)))
         }
         [_, ..] => Ok(None),
     }
