@@ -1,11 +1,8 @@
 -- The replica that a state stands for, after one change more.
-use Rattle.std.proofs.Common.{◌≡◌, ℕ, zero, suc, ◌+◌, List, [], ◌∷◌, ◌++◌, length, drop, refl, ap, ◌∙◌}
-use Rattle.std.specs.Prelude.{Bool, true, false, ◌==◌, not, filter, fold, map, if◌then◌else◌}
-use Rattle.std.proofs.lemmas.Grind.{fold-append}
-use Rattle.crsm_fact_log.proofs.Lists.{filter-push}
-use Rattle.crsm_spec.specs.Lists.{numbers_below}
+use Rattle.std.proofs.Common.{◌≡◌, ℕ, zero, suc, List, [], ◌∷◌, ◌++◌, length, drop, refl, ap, sym, ◌∙◌, append_assoc}
+use Rattle.std.specs.Prelude.{not, filter, map}
+use Rattle.std.proofs.lemmas.List.{append-nil}
 use Rattle.crsm_mpspec.specs.Types.{Ballot, Value}
-use Rattle.crsm_mpreplica.proofs.SlotMaps.{numbers-snoc}
 use Rattle.crsm_mpspec.specs.declared.message.MpMessage.{MpMessage}
 use Rattle.crsm_mpspec.specs.declared.line.MpLine.{MpLine}
 use Rattle.crsm_mpspec.specs.declared.rec.MpRec.{MpRec}
@@ -74,36 +71,12 @@ pub accept-tells : (x : Draft) (line : MpLine) (slot : ℕ) (b : Ballot) (v : Va
 unfolding keep_as
 accept-tells x line slot b v = rw (exec-none x.replica.me x.replica.log (MpRec.Accept slot b v) (executed-accept x.replica.log slot b v)) refl
 
--- ---- to each other replica
+-- ---- to several replicas
 
--- the others below one number more
-pub others-next : (me k : ℕ) (message : MpMessage) (x : Draft) → send_to_each (filter (λ j. not (j == me)) (numbers_below (k + 1))) message x
-    ≡ (if not (k == me) then send message (send_to_each (filter (λ j. not (j == me)) (numbers_below k)) message x) k else send_to_each (filter (λ j. not (j == me)) (numbers_below k)) message x)
-unfolding send_to_each
-others-next me k message x =
-    ap (λ (ks : List ℕ). fold (send message) x (filter (λ j. not (j == me)) ks)) (numbers-snoc k)
-    ∙ ap (λ (ks : List ℕ). fold (send message) x ks) (filter-push (λ j. not (j == me)) (numbers_below k) k)
-    ∙ fold-append (send message) x (filter (λ j. not (j == me)) (numbers_below k)) (if not (k == me) then k ∷ [] else [])
-    ∙ by_test (not (k == me)) (fold (send message) x (filter (λ j. not (j == me)) (numbers_below k)))
-  where
-    by_test : (t : Bool) (y : Draft) → fold (send message) y (if t then k ∷ [] else []) ≡ (if t then send message y k else y)
-    by_test true y = refl
-    by_test false y = refl
-
-pub others-none : (me : ℕ) (message : MpMessage) (x : Draft) → send_to_each (filter (λ j. not (j == me)) (numbers_below 0)) message x ≡ x
-unfolding send_to_each numbers_below
-others-none me message x = refl
-
-pub others-sent : (me k : ℕ) (message : MpMessage) (x : Draft) → (k == me) ≡ false
-    → send_to_each (filter (λ j. not (j == me)) (numbers_below (k + 1))) message x ≡ send message (send_to_each (filter (λ j. not (j == me)) (numbers_below k)) message x) k
-others-sent me k message x other = others-next me k message x ∙ rw (other) refl
-
-pub others-skipped : (me k : ℕ) (message : MpMessage) (x : Draft) → (k == me) ≡ true
-    → send_to_each (filter (λ j. not (j == me)) (numbers_below (k + 1))) message x ≡ send_to_each (filter (λ j. not (j == me)) (numbers_below k)) message x
-others-skipped me k message x own = others-next me k message x ∙ rw (own) refl
-
--- messages leave the replica as it is
-pub sent-replica : (ks : List ℕ) (message : MpMessage) (x : Draft) → (send_to_each ks message x).replica ≡ x.replica
+-- a message to each of these
+pub sent-each : (ks : List ℕ) (message : MpMessage) (x : Draft) → send_to_each ks message x ≡ record x { sends = x.sends ++ map (λ k. (k, message)) ks }
 unfolding send_to_each send
-sent-replica [] message x = refl
-sent-replica (k ∷ ks) message x = sent-replica ks message (send message x k)
+sent-each [] message x = ap (λ (sends : List (ℕ × MpMessage)). record x { sends = sends }) (sym (append-nil x.sends))
+sent-each (k ∷ ks) message x =
+    sent-each ks message (send message x k)
+    ∙ ap (λ (sends : List (ℕ × MpMessage)). record x { sends = sends }) (append_assoc x.sends ((k, message) ∷ []) (map (λ j. (j, message)) ks))

@@ -1,7 +1,8 @@
 //! The output of a step while it runs.
 
-ghost use Rattle.std.specs.Prelude.{◌≡◌, ◌++◌, ◌∷◌, [], OnOk};
+ghost use Rattle.std.specs.Prelude.{◌≡◌, ◌++◌, ◌∷◌, [], map, OnOk};
 ghost use Rattle.crsm_mpspec.specs.Records.{FitsRec};
+ghost use Rattle.crsm_mpspec.specs.Sends.{others_below};
 ghost use Rattle.crsm_mpreplica.specs.Fitting.{FitsMessage};
 
 use crsm_base::NoMemory;
@@ -48,6 +49,19 @@ impl StepOutput {
         ensures { OnOk result ((o : Outcome) → MadeStands self.old o → FitsMessage message → MadeStands self.new (record o { sends = o.sends ++ (to, message) ∷ [] })) }
     {
         self.batch.sends.push(MpSend { to, message })?;
+        Ok(())
+    }
+
+    /// Appends a message to each replica below `n` but `me`.
+    pub(crate) fn send_to_others(
+        &mut self,
+        me: u32,
+        n: u32,
+        message: MpMessage,
+    ) -> Result<(), NoMemory>
+        ensures { OnOk result ((o : Outcome) → MadeStands self.old o → FitsMessage message → MadeStands self.new (record o { sends = o.sends ++ map (λ k. (k, message)) (others_below me n) })) }
+    {
+        self.batch.sends.push_to_others(me, n, message)?;
         Ok(())
     }
 

@@ -23,7 +23,7 @@ use crate::note::{Note, close, end_below};
 use crate::state::MpReplica;
 use crsm_base::{Ballot, NoMemory};
 use crsm_mpledger::{Execution, MpLedger, executed_slots_grow, executions_are_by_slot};
-use crsm_mpspec::{MpLine, MpRec, SharedCommand, share_value};
+use crsm_mpspec::{MpLine, MpRec, SharedCommand, SharedValue};
 use std::alloc::Global;
 
 /// Applies a record, and adds it with its line to the output.
@@ -70,7 +70,7 @@ impl MpReplica {
         line: MpLine,
         slot: u64,
         ballot: Ballot,
-        value: Option<SharedCommand>,
+        value: SharedValue,
     ) -> Result<(), NoMemory>
         ensures { MakesWhere (λ x. FitsAccept slot ballot value) (drafts.keep_as line (Record.Accept slot ballot value)) self.old result self.new }
     {
@@ -85,12 +85,7 @@ impl MpReplica {
     }
 
     /// Accepts a value that is not a command of a client of this replica. `NoMemory` if memory runs out.
-    pub fn accept(
-        &mut self,
-        slot: u64,
-        ballot: Ballot,
-        value: &Option<SharedCommand>,
-    ) -> Result<(), NoMemory>
+    pub fn accept(&mut self, slot: u64, ballot: Ballot, value: &SharedValue) -> Result<(), NoMemory>
         ensures { MakesWhere (λ x. FitsAccept slot ballot value.now) (drafts.keep (Record.Accept slot ballot value.now)) self.old result self.new }
     {
         let line = MpLine::Accept {
@@ -99,7 +94,7 @@ impl MpReplica {
             round: ballot.round,
             by: ballot.by,
         };
-        let value = share_value(value)?;
+        let value = value.share()?;
         self.accept_as(line, slot, ballot, value)?;
         Ok(())
     }
@@ -122,14 +117,14 @@ impl MpReplica {
             client: own.client,
             number: own.number,
         };
-        let value = Some(command.share()?);
+        let value = command.to_value()?;
         self.accept_as(line, slot, ballot, value)?;
         Ok(())
     }
 
     /// Records the chosen value of a slot, unless it is known, and executes it and its successors once all before it
     /// are executed. `NoMemory` if memory runs out.
-    pub fn choose(&mut self, slot: u64, value: &Option<SharedCommand>) -> Result<(), NoMemory>
+    pub fn choose(&mut self, slot: u64, value: &SharedValue) -> Result<(), NoMemory>
         ensures { MakesWhere (λ x. FitsChoice slot value.now) (deciding.choose slot value.now) self.old result self.new }
     {
         if self.ledger.is_chosen(slot) {
@@ -137,7 +132,7 @@ impl MpReplica {
         }
         executed_slots_grow();
         let before = self.ledger.executed_len();
-        let value = share_value(value)?;
+        let value = value.share()?;
         let line = MpLine::Choose {
             replica: self.me,
             slot,

@@ -18,15 +18,10 @@ impl MpReplica {
     }
 
     /// Sends a message to each other replica. `NoMemory` if memory runs out.
-    pub fn send_to_others(&mut self, message: &MpMessage) -> Result<(), NoMemory>
-        ensures { MakesWhere (λ x. FitsMessage message.now) (drafts.send_to_others message.now) self.old result self.new }
+    pub fn send_to_others(&mut self, message: MpMessage) -> Result<(), NoMemory>
+        ensures { MakesWhere (λ x. FitsMessage message) (drafts.send_to_others message) self.old result self.new }
     {
-        for to in 0..self.n {
-            if to != self.me {
-                let copy = message.copy()?;
-                self.send(to, copy)?;
-            }
-        }
+        self.made.send_to_others(self.me, self.n, message)?;
         Ok(())
     }
 
