@@ -9,14 +9,14 @@ ghost use Rattle.crsm_mpcore.specs.Parts.{accept_once, ask_to_accept};
 
 use crsm_base::{Ballot, NoMemory, ballot_precedes};
 use crsm_mpreplica::MpReplica;
-use crsm_mpspec::{MpMessage, SharedCommand, share_value};
+use crsm_mpspec::{MpMessage, SharedCommand, SharedValue};
 
 /// Proposes the value that an earlier ballot may have proposed at a slot, or a noop.
 pub(crate) fn propose(
     state: &mut MpReplica,
     ballot: Ballot,
     slot: u64,
-    value: &Option<SharedCommand>,
+    value: &SharedValue,
 ) -> Result<(), NoMemory>
     ensures { MakesWhere (λ x. FitsAccept slot ballot value.now) (deciding.propose ballot slot value.now) state.old result state.new }
 {
@@ -37,7 +37,7 @@ pub(crate) fn submit(
     let awaited = command.share()?;
     state.await_command(slot, awaited)?;
     state.submit(slot, ballot, command)?;
-    let value = Some(command.share()?);
+    let value = command.to_value()?;
     ask_to_accept(state, ballot, slot, &value)?;
     Ok(())
 }
@@ -47,7 +47,7 @@ fn ask_to_accept(
     state: &mut MpReplica,
     ballot: Ballot,
     slot: u64,
-    value: &Option<SharedCommand>,
+    value: &SharedValue,
 ) -> Result<(), NoMemory>
     ensures { MakesWhere (λ x. FitsAccept slot ballot value.now) (ask_to_accept ballot slot value.now) state.old result state.new }
 {
@@ -55,9 +55,9 @@ fn ask_to_accept(
     let message = MpMessage::Acc {
         ballot,
         slot,
-        value: share_value(value)?,
+        value: value.share()?,
     };
-    state.send_to_others(&message)?;
+    state.send_to_others(message)?;
     choose_voted(state, slot)?;
     Ok(())
 }
@@ -72,9 +72,9 @@ fn choose_voted(state: &mut MpReplica, slot: u64) -> Result<(), NoMemory>
     let Some((_, accepted)) = state.ledger().accepted(slot) else {
         return Ok(());
     };
-    let value = share_value(accepted)?;
+    let value = accepted.share()?;
     state.choose(slot, &value)?;
-    state.send_to_others(&MpMessage::Learn { slot, value })?;
+    state.send_to_others(MpMessage::Learn { slot, value })?;
     Ok(())
 }
 
@@ -85,7 +85,7 @@ pub(crate) fn on_acc(
     from: u32,
     ballot: Ballot,
     slot: u64,
-    value: &Option<SharedCommand>,
+    value: &SharedValue,
 ) -> Result<(), NoMemory>
     ensures { MakesWhere (λ x. FitsAccept slot ballot value.now) (deciding.on_acc from ballot slot value.now) state.old result state.new }
 {
@@ -104,7 +104,7 @@ fn accept_once(
     state: &mut MpReplica,
     ballot: Ballot,
     slot: u64,
-    value: &Option<SharedCommand>,
+    value: &SharedValue,
 ) -> Result<(), NoMemory>
     ensures { MakesWhere (λ x. FitsAccept slot ballot value.now) (accept_once ballot slot value.now) state.old result state.new }
 {

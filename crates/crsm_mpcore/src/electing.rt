@@ -43,7 +43,7 @@ fn ask(state: &mut MpReplica, ballot: Ballot) -> Result<(), NoMemory>
     state.promise(ballot)?;
     let start = state.ledger().executed_len();
     state.begin_asking(ballot, start)?;
-    state.send_to_others(&MpMessage::Prep { ballot, start })?;
+    state.send_to_others(MpMessage::Prep { ballot, start })?;
     lead_at_majority(state)?;
     Ok(())
 }

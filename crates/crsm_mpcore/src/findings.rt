@@ -7,8 +7,9 @@ ghost use Rattle.crsm_mpspec.specs.Replica.{Report as ReportOnPaper};
 ghost use Rattle.crsm_mpreplica.specs.Fitting.{FitsAccepted, FitsChosen};
 
 use crsm_base::{Ballot, NoMemory, ballot_precedes};
+use crsm_mpledger::share_noop;
 use crsm_mpreplica::MpReport;
-use crsm_mpspec::{MpAccepted, MpChosen, SharedCommand, share_value};
+use crsm_mpspec::{MpAccepted, MpChosen, SharedValue};
 use std::alloc::Global;
 use std::collections::BTreeMap;
 
@@ -19,8 +20,8 @@ pub(crate) struct Findings {
     alloc: Global,
     /// The slot after all that are reported.
     next: u64,
-    chosen: BTreeMap<u64, Option<SharedCommand>>,
-    best: BTreeMap<u64, (Ballot, Option<SharedCommand>)>,
+    chosen: BTreeMap<u64, SharedValue>,
+    best: BTreeMap<u64, (Ballot, SharedValue)>,
 }
 
 impl Findings {
@@ -75,7 +76,7 @@ impl Findings {
         if self.chosen.contains_key(&chosen.slot) {
             return Ok(());
         }
-        let value = share_value(&chosen.value)?;
+        let value = chosen.value.share()?;
         self.chosen.insert(chosen.slot, value)?;
         Ok(())
     }
@@ -88,7 +89,7 @@ impl Findings {
         if !self.is_greater(accepted) {
             return Ok(());
         }
-        let value = share_value(&accepted.value)?;
+        let value = accepted.value.share()?;
         self.best.insert(accepted.slot, (accepted.ballot, value))?;
         Ok(())
     }
@@ -105,19 +106,19 @@ impl Findings {
     }
 
     /// Returns the values known to be chosen, by slot.
-    pub(crate) fn chosen(&self) -> &BTreeMap<u64, Option<SharedCommand>>
+    pub(crate) fn chosen(&self) -> &BTreeMap<u64, SharedValue>
         ensures { result.now ≡ self.now.chosen }
     {
         &self.chosen
     }
 
     /// Returns the value that must be proposed at a slot: a noop if none is reported.
-    pub(crate) fn value_at(&self, slot: u64) -> Result<Option<SharedCommand>, NoMemory>
+    pub(crate) fn value_at(&self, slot: u64) -> Result<SharedValue, NoMemory>
         ensures { IfOk result (λ value. (start : ℕ) (reports : List ReportOnPaper) → AreFindings self.now start reports → value ≡ reported_at slot reports) }
     {
         match self.best.get(&slot) {
-            Some((_, value)) => share_value(value),
-            None => Ok(None),
+            Some((_, value)) => value.share(),
+            None => share_noop(self.alloc),
         }
     }
 

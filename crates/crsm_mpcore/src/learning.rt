@@ -10,7 +10,7 @@ ghost use Rattle.crsm_mpreplica.specs.State.{Makes, MakesWhere};
 
 use crsm_base::{MAX_SENT_AGAIN, NoMemory};
 use crsm_mpreplica::MpReplica;
-use crsm_mpspec::{MpMessage, share_value};
+use crsm_mpspec::MpMessage;
 
 /// Handles a replica's request for executed values from a slot on: sends the first of them.
 pub(crate) fn on_ask(state: &mut MpReplica, from: u32, start: u64) -> Result<(), NoMemory>
@@ -33,7 +33,7 @@ fn teach(state: &mut MpReplica, to: u32, slot: u64) -> Result<(), NoMemory>
         // Only executed slots are passed.
         return Ok(());
     };
-    let value = share_value(executed)?;
+    let value = executed.share()?;
     state.send(to, MpMessage::Learn { slot, value })?;
     Ok(())
 }

@@ -5,15 +5,15 @@ ghost use Rattle.std.specs.Option.{option_eq};
 ghost use Rattle.crsm_mpspec.specs.Values as values;
 
 use crsm_base::{Command, Key, Op, Val};
-use crsm_mpspec::SharedCommand;
+use crsm_mpspec::SharedValue;
 
 /// Returns whether the value of a slot is this command.
 #[tactic(auto, unfolding(crsm_mpspec::specs::Values::is_command))]
-pub(crate) fn is_command(command: &Command, value: &Option<SharedCommand>) -> bool
+pub(crate) fn is_command(command: &Command, value: &SharedValue) -> bool
     ensures { result ≡ values.is_command command.now value.now }
 {
-    match value {
-        Some(chosen) => is_same(command, chosen.get()),
+    match value.get() {
+        Some(chosen) => is_same(command, chosen),
         None => false,
     }
 }

@@ -10,7 +10,7 @@ ghost use Rattle.crsm_mpcore.specs.Ticks.{IsOpen, proposal, propose_slot, questi
 
 use crsm_base::{MAX_SENT_AGAIN, NoMemory, is_among};
 use crsm_mpreplica::{Leading, MpReplica, Note};
-use crsm_mpspec::{MpMessage, share_value};
+use crsm_mpspec::MpMessage;
 use std::alloc::Global;
 use std::collections::BTreeMap;
 
@@ -22,7 +22,7 @@ pub(crate) fn on_tick(state: &mut MpReplica) -> Result<(), NoMemory>
     ask_again(state)?;
     propose_all_again(state)?;
     let start = state.ledger().executed_len();
-    state.send_to_others(&MpMessage::Ask { start })?;
+    state.send_to_others(MpMessage::Ask { start })?;
     Ok(())
 }
 
@@ -121,7 +121,7 @@ fn proposal_to(state: &MpReplica, slot: u64, to: u32) -> Result<Option<MpMessage
     Ok(Some(MpMessage::Acc {
         ballot: leading.ballot,
         slot,
-        value: share_value(accepted)?,
+        value: accepted.share()?,
     }))
 }
 

@@ -13,7 +13,7 @@ returns c x s fits =
     let b = c.args.ballot in
     let slot = c.args.slot in
     let y = count_vote slot x.replica.me x in
-    let same = c.in_ok-share_value.ensures in
+    let same = c.in_ok-share.ensures in
     subst (λ v. MpReplicaStands c.choose_voted.new.state (choose_voted slot (send_to_others (MpMessage.Acc b slot v) y))) same
-    (c.in_ok-choose_voted.ensures (send_to_others (MpMessage.Acc b slot c.in_ok-share_value.field-0) y)
+    (c.in_ok-choose_voted.ensures (send_to_others (MpMessage.Acc b slot c.in_ok-share.field-0) y)
     (c.in_ok-send_to_others.ensures y (c.in_ok-open_slot.ensures x s) (fits.1, fits.0, subst FitsValue (sym same) fits.2)))

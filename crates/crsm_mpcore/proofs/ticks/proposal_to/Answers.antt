@@ -24,7 +24,7 @@ pub returns : goal.returns
 returns c x s is_open =
     let stands = subst (λ (n : Note). NoteStands n x.replica.me x.replica.log x.replica.note) c.in-Leading.is (c.note.ensures x s) in
     let at : accepted_at c.args.slot x.replica.log ≡ Some c.in-Some.field-0.now = sym (c.accepted.ensures x.replica.log (c.ledger.ensures x s)) ∙ ap option_copied c.in-Some.is in
-    ap (λ (v : Value). Some (MpMessage.Acc c.in-Leading.leading.ballot c.args.slot v)) c.in_ok-share_value.ensures
+    ap (λ (v : Value). Some (MpMessage.Acc c.in-Leading.leading.ballot c.args.slot v)) c.in_ok-share.ensures
     ∙ proposed-to c.in-Leading.leading c.args.slot x.replica x.replica.note c.args.to c.in-Some.field-0.now stands is_open (λ e. c.if-to-me.false (e ∙ sym (c.me.ensures.is x s)))
     (sym c.has_voted.ensures ∙ c.if-has_voted.false) at
 
