@@ -78,7 +78,8 @@ impl StepOutput {
         ensures out { (o : Outcome) → MadeStands self.old o → Answers out.new o }
         ensures none { (o : Outcome) → MadeStands self.old o → MadeStands self.new nothing }
     {
-        out.clear();
+        // In this order the swap reads no field that was written just before.
         mem::swap(&mut self.batch, out);
+        self.batch.clear();
     }
 }

@@ -16,12 +16,11 @@ returns-clause-out c o s =
 
 pub returns-clause-none : goal.returns-clause-none
 returns-clause-none c o s =
-    let next = c.swap.ensures.x_after in
     record {
-      records = ap (λ (b : MpBatch). b.records) next ∙ c.clear.ensures.records;
-      lines = ap (λ (b : MpBatch). b.lines) next ∙ c.clear.ensures.lines;
-      sends = ap (λ (b : MpBatch). b.sends) next ∙ c.clear.ensures.sends;
-      replies = ap (λ (b : MpBatch). b.replies) next ∙ c.clear.ensures.replies;
+      records = c.clear.ensures.records;
+      lines = c.clear.ensures.lines;
+      sends = c.clear.ensures.sends;
+      replies = c.clear.ensures.replies;
       records_fit = tt;
       sends_fit = tt;
     }
