@@ -1,12 +1,12 @@
 -- The first of the messages of multicasts.
-use Rattle.std.proofs.Common.{◌≡◌, ℕ, zero, suc, ◌+◌, ◌-◌, ◌<◌, List, [], ◌∷◌, ◌++◌, length, map, get_or, set, take, drop, ap, sym, ◌∙◌, append_assoc, arith}
+use Rattle.std.proofs.Common.{◌≡◌, ℕ, zero, suc, ◌+◌, ◌-◌, ◌<◌, List, [], ◌∷◌, ◌++◌, length, map, get_or, set, take, drop, refl, ap, sym, ◌∙◌, append_assoc, arith}
 use Rattle.std.specs.List.{flat_map}
 use Rattle.std.proofs.lemmas.List.{append-nil, drop-set-lt, drop_more, length-append, length-map, take-map, take_more_set}
 use Rattle.std.proofs.lemmas.List.Concat.{flat_map-append}
 use Rattle.crsm_mpspec.specs.declared.send.MpSend.{MpSend}
 use Rattle.crsm_mpspec.specs.declared.multicast.MpReceivers.{MpReceivers}
 use Rattle.crsm_mpspec.specs.declared.multicast.MpMulticast.{MpMulticast}
-use Rattle.crsm_mpspec.specs.Sends.{receivers, sends_of}
+use Rattle.crsm_mpspec.specs.Sends.{receivers, sends_of, sends_to}
 
 take-parts : {A : Type 0} (n : ℕ) (xs ys : List A) → take n (xs ++ ys) ≡ take n xs ++ take (n - length xs) ys
 take-parts zero xs ys = let none : 0 - length xs ≡ 0 = omega arith in ap (λ (k : ℕ). take k ys) (sym none)
@@ -43,3 +43,10 @@ cut-sends m first n is = ap (map to_send) is ∙ sym (take-map to_send n (receiv
 
 pub length-sends : (m : MpMulticast) → length (sends_of m) ≡ length (receivers m.receivers)
 length-sends m = length-map (receivers m.receivers) _
+
+pub no-sends : (m : MpMulticast) → length (receivers m.receivers) ≡ 0 → sends_of m ≡ []
+no-sends m none = to_none (receivers m.receivers) none
+  where
+    to_none : (ks : List ℕ) → length ks ≡ 0 → sends_to m.message ks ≡ []
+    to_none [] none = refl
+    to_none (k ∷ ks) none = absurd (omega (arith, none))

@@ -16,7 +16,7 @@ pub enum MpReceivers {
 
 impl MpReceivers {
     /// Returns the number of receivers.
-    fn len(self) -> u32
+    pub(crate) fn len(self) -> u32
         ensures { result ≡ length (receivers self) }
     {
         match self {

@@ -1,7 +1,7 @@
 //! Lists of messages to be sent.
 
-ghost use Rattle.std.specs.Prelude.{◌≡◌, ◌-◌, [], ◌∷◌, ◌++◌, None, length, take, IfSome, OnOk, OnErr};
-ghost use Rattle.crsm_mpspec.specs.Sends.{others_below, sends_of, sends_to};
+ghost use Rattle.std.specs.Prelude.{◌≡◌, ◌<◌, ◌-◌, [], ◌∷◌, ◌++◌, None, length, take, IfSome, OnOk, OnErr};
+ghost use Rattle.crsm_mpspec.specs.Sends.{others_below, receivers, sends_of, sends_to};
 
 use crate::message::MpMessage;
 use crate::multicast::{MpMulticast, MpReceivers};
@@ -70,13 +70,19 @@ impl MpSends {
         Ok(())
     }
 
-    /// Removes and returns the first message, with all its receivers. The memory is kept for further ones.
+    /// Removes and returns the first message that has receivers, with all of them. The memory is kept for others.
     pub fn pop_first(&mut self) -> Option<MpMulticast>
         ensures first { IfSome result (λ m. self.old ≡ sends_of m ++ self.new) }
+        ensures some { IfSome result (λ m. 0 < length (receivers m.receivers)) }
         ensures none { result ≡ None → self.old ≡ [] }
         ensures empty { result ≡ None → self.new ≡ [] }
     {
-        self.items.pop_front()
+        while let Some(multicast) = self.items.pop_front() {
+            if multicast.receivers.len() > 0 {
+                return Some(multicast);
+            }
+        }
+        None
     }
 
     /// Keeps the first `count` messages, and removes the others. Returns how many fewer there were than `count`.
