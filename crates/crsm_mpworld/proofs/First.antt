@@ -19,7 +19,7 @@ use Rattle.crsm_mpworld.specs.declared.world.MpWorld.{MpWorld}
 use Rattle.crsm_mpworld.specs.Packets.{IsOpen, MpNetworkStands}
 use Rattle.crsm_mpworld.specs.Sites.{StandFor}
 use Rattle.crsm_mpworld.specs.World.{Holds, Leads}
-use Rattle.crsm_mpworld.proofs.Numbers.{range_more}
+use Rattle.crsm_mpworld.proofs.Numbers.{range_to}
 
 -- replica k after its first boot
 site_of : ℕ → ℕ → Site
@@ -71,9 +71,6 @@ all_lines n = refl
 
 -- ---- the next boot
 
-up_to : (i : ℕ) → range_with_len 0 (i + 1) ≡ range_with_len 0 i ++ i ∷ []
-up_to i = range_more 0 i ∙ ap (λ j. range_with_len 0 i ++ j ∷ []) (let z : 0 + i ≡ i = omega arith in z)
-
 booted_long : (n i : ℕ) → length (map (site_of n) (range_with_len 0 i)) ≡ i
 booted_long n i = length-map (range_with_len 0 i) (site_of n) ∙ length-range_with_len 0 i
 
@@ -106,7 +103,7 @@ places_next n i l =
     let booted = map (site_of n) (range_with_len 0 i) in
     ap (λ ps. set ps i (site_of n i)) (places_here n i l) ∙ set_seam booted rest unborn (site_of n i) i (booted_long n i)
     ∙ sym (append_one booted (site_of n i) rest)
-    ∙ ap (λ ps. ps ++ rest) (sym (map-append (site_of n) (range_with_len 0 i) (i ∷ [])) ∙ ap (map (site_of n)) (sym (up_to i)))
+    ∙ ap (λ ps. ps ++ rest) (sym (map-append (site_of n) (range_with_len 0 i) (i ∷ [])) ∙ ap (map (site_of n)) (sym (range_to i)))
   where
     append_one : (xs : List Site) (x : Site) (ys : List Site) → (xs ++ x ∷ []) ++ ys ≡ xs ++ x ∷ ys
     append_one [] x ys = refl
@@ -114,13 +111,13 @@ places_next n i l =
 
 bytes_next : (n i : ℕ) → sum_by (size_of n) (range_with_len 0 i) + size_of n i ≡ sum_by (size_of n) (range_with_len 0 (i + 1))
 bytes_next n i =
-    let e = ap (sum_by (size_of n)) (up_to i) ∙ sum_by-append (size_of n) (range_with_len 0 i) (i ∷ []) in omega (arith, e)
+    let e = ap (sum_by (size_of n)) (range_to i) ∙ sum_by-append (size_of n) (range_with_len 0 i) (i ∷ []) in omega (arith, e)
 
 lines_next : (n i : ℕ) → part_lines n i ++ told_of n i ≡ part_lines n (i + 1)
 unfolding part_lines
 lines_next n i =
     ap (λ ls. flat_map (told_of n) (range_with_len 0 i) ++ ls) (sym (append-nil (told_of n i)))
-    ∙ sym (flat_map-append (told_of n) (range_with_len 0 i) (i ∷ [])) ∙ ap (flat_map (told_of n)) (sym (up_to i))
+    ∙ sym (flat_map-append (told_of n) (range_with_len 0 i) (i ∷ [])) ∙ ap (flat_map (told_of n)) (sym (range_to i))
 
 start_is : (n i : ℕ) → i < n → start_at (part n i) i ≡ whole_step (part n i) i (first_boot n i)
 unfolding start_at first_boot log_at part log_of

@@ -1,17 +1,20 @@
 -- The sending of a step's output.
-use Rattle.std.proofs.Common.{◌≡◌, ◌+◌, ℕ, zero, suc, min, List, [], ◌∷◌, ◌++◌, length, map, take, refl, sym, ap, ◌∙◌, subst, arith, append_assoc, append-nil, length-append}
+use Rattle.std.proofs.Common.{◌≡◌, ◌+◌, ℕ, zero, suc, List, [], ◌∷◌, ◌++◌, length, map, take, refl, sym, ap, ◌∙◌, subst, arith, append_assoc, append-nil, length-append}
 use Rattle.std.specs.List.{AllByRecursion}
 use Rattle.std.proofs.lemmas.List.{take-map, length-map}
 use Rattle.crsm_mpreplica.specs.Made.{to_send}
+use Rattle.crsm_mpspec.specs.declared.multicast.MpMulticast.{MpMulticast}
 use Rattle.crsm_mpspec.specs.declared.line.MpLine.{MpLine}
 use Rattle.crsm_mpspec.specs.declared.message.MpMessage.{MpMessage}
 use Rattle.crsm_mpspec.specs.declared.send.MpSend.{MpSend}
 use Rattle.crsm_mpspec.specs.Draft.{Draft}
+use Rattle.crsm_mpspec.specs.Sends.{receivers, sends_of}
 use Rattle.crsm_mpspec.specs.World.{Packet, body_size, packet_of, send_line, send_lines}
 use Rattle.crsm_mpworld.specs.declared.network.MpNetwork.{MpNetwork}
-use Rattle.crsm_mpworld.specs.Effects.{HasSent, LetsOut}
+use Rattle.crsm_mpworld.specs.Effects.{HasSent, LetsOut, to_each}
 use Rattle.crsm_mpworld.specs.Fits.{FitsSend}
 use Rattle.crsm_mpworld.specs.Packets.{MpNetworkStands}
+use Rattle.crsm_mpworld.proofs.Receivers.{each_sent}
 
 -- ---- one more
 
@@ -34,48 +37,60 @@ map_more : {A B : Type 0} (f : A → B) (xs ys : List A) → map f (xs ++ ys) �
 map_more f [] ys = refl
 map_more f (x ∷ xs) ys = ap (λ zs. f x ∷ zs) (map_more f xs ys)
 
+-- none yet
+pub sent_none : (k : ℕ) (packets : List Packet) (bytes : ℕ) (lines : List MpLine) (network : MpNetwork) → MpNetworkStands network packets bytes → HasSent k [] packets bytes lines network lines
+unfolding send_lines
+sent_none k packets bytes lines network h =
+    record { stands = subst (λ (ps : List Packet). MpNetworkStands network ps bytes) (sym (append-nil packets)) h; told = sym (append-nil lines) }
+
+-- some after others
+pub sent_more : (k : ℕ) (gone more : List (ℕ × MpMessage)) (packets : List Packet) (bytes : ℕ) (before lines all : List MpLine) (network new : MpNetwork)
+    → HasSent k gone packets bytes before network lines → HasSent k more (packets ++ map (packet_of k) gone) bytes lines new all → HasSent k (gone ++ more) packets bytes before new all
+sent_more k gone more packets bytes before lines all network new h g = record {
+  stands = subst (λ (ps : List Packet). MpNetworkStands new ps bytes) (append_assoc packets (map (packet_of k) gone) (map (packet_of k) more) ∙ ap (λ ps. packets ++ ps) (sym (map_more (packet_of k) gone more))) g.stands;
+  told = g.told ∙ ap (λ ls. ls ++ send_lines k (length (packets ++ map (packet_of k) gone)) more) h.told
+      ∙ append_assoc before (send_lines k (length packets) gone) _
+      ∙ ap (λ i. before ++ (send_lines k (length packets) gone ++ send_lines k i more)) (length-append packets (map (packet_of k) gone) ∙ ap (λ n. length packets + n) (length-map gone (packet_of k)))
+      ∙ ap (λ ls. before ++ ls) (sym (send_more k (length packets) gone more));
+}
+
 pub going_begins : (k : ℕ) (out : List (ℕ × MpMessage)) (left : List MpSend) (packets : List Packet) (bytes : ℕ) (lines : List MpLine) (network : MpNetwork)
     → left ≡ map to_send out → MpNetworkStands network packets bytes → Going k out left packets bytes lines network lines
-unfolding send_lines
 going_begins k out left packets bytes lines network e h = record {
   gone = [];
   rest = out;
   are = refl;
   left_are = e;
-  sent = record { stands = subst (λ (ps : List Packet). MpNetworkStands network ps bytes) (sym (append-nil packets)) h; told = sym (append-nil lines) };
+  sent = sent_none k packets bytes lines network h;
 }
 
--- one after others
-sent_next : (k : ℕ) (gone : List (ℕ × MpMessage)) (s : ℕ × MpMessage) (packets : List Packet) (bytes : ℕ) (before lines all : List MpLine) (network new : MpNetwork)
-    → HasSent k gone packets bytes before network lines → HasSent k (s ∷ []) (packets ++ map (packet_of k) gone) bytes lines new all → HasSent k (gone ++ s ∷ []) packets bytes before new all
-sent_next k gone s packets bytes before lines all network new h g = record {
-  stands = subst (λ (ps : List Packet). MpNetworkStands new ps bytes) (append_assoc packets (map (packet_of k) gone) (packet_of k s ∷ []) ∙ ap (λ ps. packets ++ ps) (sym (map_more (packet_of k) gone (s ∷ [])))) g.stands;
-  told = g.told ∙ ap (λ ls. ls ++ send_lines k (length (packets ++ map (packet_of k) gone)) (s ∷ [])) h.told
-      ∙ append_assoc before (send_lines k (length packets) gone) _
-      ∙ ap (λ i. before ++ (send_lines k (length packets) gone ++ send_lines k i (s ∷ []))) (length-append packets (map (packet_of k) gone) ∙ ap (λ n. length packets + n) (length-map gone (packet_of k)))
-      ∙ ap (λ ls. before ++ ls) (sym (send_more k (length packets) gone (s ∷ [])));
-}
-
-pub going_next : (k : ℕ) (out : List (ℕ × MpMessage)) (send : MpSend) (left : List MpSend) (packets : List Packet) (bytes : ℕ) (before lines all : List MpLine) (network new : MpNetwork)
-    → Going k out (send ∷ left) packets bytes before network lines
-    → ((ps : List Packet) (bs : ℕ) → MpNetworkStands network ps bs → HasSent k ((send.to, send.message) ∷ []) ps bs lines new all)
-    → Going k out left packets bytes before new all
+-- the rest of messages of which the first are known
+after_first : (xs rest : List (ℕ × MpMessage)) (left : List MpSend) → map to_send xs ++ left ≡ map to_send rest
+    → (later : List (ℕ × MpMessage)) × (rest ≡ xs ++ later) × (left ≡ map to_send later)
 unfolding to_send
-going_next k out send left packets bytes before lines all network new g step = at g.rest g.are g.left_are
-  where
-    at : (rest : List (ℕ × MpMessage)) → out ≡ g.gone ++ rest → send ∷ left ≡ map to_send rest → Going k out left packets bytes before new all
-    at [] are e = cc
-    at (s ∷ rest) are e =
-        let head : send ≡ record { to = s.0; message = s.1 } = cc in
-        let same : (send.to, send.message) ≡ s = ap (λ (x : MpSend). (x.to, x.message)) head in
-        record {
-          gone = g.gone ++ s ∷ [];
-          rest = rest;
-          are = are ∙ sym (append_assoc g.gone (s ∷ []) rest);
-          left_are = cc;
-          sent = sent_next k g.gone s packets bytes before lines all network new g.sent
-              (subst (λ (x : ℕ × MpMessage). HasSent k (x ∷ []) (packets ++ map (packet_of k) g.gone) bytes lines new all) same (step _ bytes g.sent.stands));
-        }
+after_first [] rest left e = (rest, refl, e)
+after_first (x ∷ xs) [] left e = cc
+after_first (x ∷ xs) (s ∷ rest) left e =
+    let head : to_send x ≡ to_send s = cc in
+    let tail : map to_send xs ++ left ≡ map to_send rest = cc in
+    let same : x ≡ s = ap (λ (y : MpSend). (y.to, y.message)) head in
+    let after = after_first xs rest left tail in
+    (after.0, ap (λ (ys : List (ℕ × MpMessage)). s ∷ ys) after.1 ∙ ap (λ (y : ℕ × MpMessage). y ∷ (xs ++ after.0)) (sym same), after.2)
+
+pub going_next : (k : ℕ) (out : List (ℕ × MpMessage)) (m : MpMulticast) (left : List MpSend) (packets : List Packet) (bytes : ℕ) (before lines all : List MpLine) (network new : MpNetwork)
+    → Going k out (sends_of m ++ left) packets bytes before network lines
+    → ((ps : List Packet) (bs : ℕ) → MpNetworkStands network ps bs → HasSent k (to_each m.message (receivers m.receivers)) ps bs lines new all)
+    → Going k out left packets bytes before new all
+going_next k out m left packets bytes before lines all network new g step =
+    let more = to_each m.message (receivers m.receivers) in
+    let after = after_first more g.rest left (ap (λ (xs : List MpSend). xs ++ left) (sym (each_sent m.message (receivers m.receivers))) ∙ g.left_are) in
+    record {
+      gone = g.gone ++ more;
+      rest = after.0;
+      are = g.are ∙ ap (λ (xs : List (ℕ × MpMessage)). g.gone ++ xs) after.1 ∙ sym (append_assoc g.gone more after.0);
+      left_are = after.2;
+      sent = sent_more k g.gone more packets bytes before lines all network new g.sent (step _ bytes g.sent.stands);
+    }
 
 pub going_ends : (k : ℕ) (out : List (ℕ × MpMessage)) (left : List MpSend) (packets : List Packet) (bytes : ℕ) (before lines : List MpLine) (network : MpNetwork)
     → Going k out left packets bytes before network lines → left ≡ [] → HasSent k out packets bytes before network lines
@@ -91,25 +106,13 @@ nothing_left (x ∷ xs) e = absurd (omega (arith, e))
 
 -- ---- the first of a list
 
-take_same : {X : Type 0} (xs : List X) (a b : ℕ) → min a (length xs) ≡ min b (length xs) → take a xs ≡ take b xs
-take_same [] zero zero e = refl
-take_same [] zero (suc b) e = refl
-take_same [] (suc a) zero e = refl
-take_same [] (suc a) (suc b) e = refl
-take_same (x ∷ xs) zero zero e = refl
-take_same (x ∷ xs) zero (suc b) e = absurd (omega arith)
-take_same (x ∷ xs) (suc a) zero e = absurd (omega arith)
-take_same (x ∷ xs) (suc a) (suc b) e = ap (λ ys. x ∷ ys) (take_same xs a b (omega arith))
-
 pub fit_taken : (n : ℕ) (all : List MpSend) → AllByRecursion FitsSend all → AllByRecursion FitsSend (take n all)
 fit_taken zero all fit = tt
 fit_taken (suc n) [] fit = tt
 fit_taken (suc n) (x ∷ xs) fit = (fit.0, fit_taken n xs fit.1)
 
-pub sends_taken : (count out made : ℕ) (sends : List (ℕ × MpMessage)) (all some : List MpSend) → all ≡ map to_send sends → made ≡ length all → out ≡ min count made → some ≡ take out all → some ≡ map to_send (take count sends)
-sends_taken count out made sends all some e m o s =
-    let long : length all ≡ length sends = ap length e ∙ length-map sends to_send in
-    s ∙ ap (take out) e ∙ take-map to_send out sends ∙ ap (map to_send) (take_same sends out count (omega (arith, long, m, o)))
+pub sends_taken : (count : ℕ) (sends : List (ℕ × MpMessage)) (all some : List MpSend) → all ≡ map to_send sends → some ≡ take count all → some ≡ map to_send (take count sends)
+sends_taken count sends all some e s = s ∙ ap (take count) e ∙ take-map to_send count sends
 
 -- ---- the whole
 

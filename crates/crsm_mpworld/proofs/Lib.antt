@@ -4,6 +4,7 @@ mod Disks
 mod Places
 mod Boots
 mod Gets
+mod Messages
 mod PacketLists
 mod Numbers
 mod Marked
@@ -13,6 +14,7 @@ mod First
 mod Allowed
 mod Turns
 mod Leading
+mod Receivers
 mod Letting
 mod Series
 mod Booting

@@ -7,6 +7,7 @@ use Rattle.std.proofs.lemmas.List.{length-set}
 use Rattle.std.proofs.lemmas.List.Elements.{filter-append}
 use Rattle.crsm_mpspec.specs.World.{Packet}
 use Rattle.crsm_mpworld.specs.Packets.{is_fresh_for, used_up, numbers_of, with_later, HasFresh}
+use Rattle.crsm_mpworld.proofs.Gets.{get_before}
 
 -- ---- filters
 
@@ -54,6 +55,9 @@ range_more a (suc n) =
     let e : a + 1 + n ≡ a + suc n = omega arith in
     let f : suc n + 1 ≡ suc (n + 1) = omega arith in
     ap (range_with_len a) f ∙ ap (λ is. a ∷ is) (range_more (a + 1) n ∙ ap (λ i. range_with_len (a + 1) n ++ i ∷ []) e)
+
+pub range_to : (i : ℕ) → range_with_len 0 (i + 1) ≡ range_with_len 0 i ++ i ∷ []
+range_to i = range_more 0 i ∙ ap (λ j. range_with_len 0 i ++ j ∷ []) (let z : 0 + i ≡ i = omega arith in z)
 
 all_above : (a n m : ℕ) → a + n ≤ m → AllByRecursion (λ i. i < m) (range_with_len a n)
 all_above a zero m l = tt
@@ -107,11 +111,6 @@ has_used test packets i is h = record {
 }
 
 -- ---- a message that is sent
-
-get_before : (packets : List Packet) (m : Packet) (i : ℕ) → i < length packets → slice_get (packets ++ m ∷ []) i ≡ slice_get packets i
-get_before [] m i l = absurd (omega arith)
-get_before (a ∷ packets) m zero l = refl
-get_before (a ∷ packets) m (suc i) l = get_before packets m i (omega arith)
 
 fresh_before : (test : ℕ → Bool) (packets : List Packet) (m : Packet) (i : ℕ) → i < length packets → is_fresh_for test (packets ++ m ∷ []) i ≡ is_fresh_for test packets i
 unfolding is_fresh_for

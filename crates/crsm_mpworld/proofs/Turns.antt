@@ -7,8 +7,8 @@ use Rattle.crsm_mpspec.specs.Replica.{Replica}
 use Rattle.crsm_mpspec.specs.Step.{step}
 use Rattle.crsm_mpspec.specs.World.{Site, Packet, World, Ending, is_up, is_up_at, log_of, log_at}
 use Rattle.crsm_mpspec.specs.Moments.{silent, step_at, step_at_site, come, use_up}
-use Rattle.crsm_mpworld.specs.declared.network.Packet.{Packet as PacketInMemory}
-use Rattle.crsm_mpworld.specs.Packets.{in_memory, used_up}
+use Rattle.crsm_mpworld.specs.declared.sent.PacketView.{PacketView}
+use Rattle.crsm_mpworld.specs.Packets.{IsPacket, used_up}
 use Rattle.crsm_mpworld.specs.Sites.{is_up_in, up_in}
 
 -- ---- a replica that is up, or not
@@ -52,9 +52,11 @@ pub come_missed : (ends : Ending) (v : World) (o : Option Packet) → o ≡ None
 unfolding come
 come_missed ends v o e = ap (come ends v) e
 
-pub come_found : (ends : Ending) (v : World) (o : Option Packet) (m : PacketInMemory) (p : Packet) → o ≡ Some p → m ≡ in_memory p → come ends v o ≡ step_at ends v m.to m.input m.from
-unfolding come in_memory
-come_found ends v o m p e is = ap (come ends v) e ∙ ap (λ (q : PacketInMemory). step_at ends v q.to q.input q.from) (sym is)
+pub come_found : (ends : Ending) (v : World) (o : Option Packet) (m : PacketView) (p : Packet) → o ≡ Some p → IsPacket m p → come ends v o ≡ step_at ends v m.to m.input.now m.from
+unfolding come
+come_found ends v o m p e is =
+    ap (come ends v) e ∙ ap (λ k. step_at ends v k (MpInput.Message p.message) p.from) (sym is.to)
+    ∙ ap (λ i. step_at ends v m.to i p.from) (sym is.input) ∙ ap (step_at ends v m.to m.input.now) (sym is.from)
 
 -- whether it was used makes no difference
 come_same : (ends : Ending) (v : World) (o : Option Packet) → come ends v (option_map {T = Packet} (λ m. record m { used = true }) o) ≡ come ends v o

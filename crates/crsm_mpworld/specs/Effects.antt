@@ -27,6 +27,10 @@ ending_of endings.Lost = lost_step
 
 -- ---- what goes out
 
+-- the message to each of these replicas
+abbrev pub to_each : MpMessage → List ℕ → List (ℕ × MpMessage)
+to_each m receivers = map (λ to. (to, m)) receivers
+
 -- Replica k has sent these messages: they follow the packets, and their lines follow those before.
 pub record HasSent (k : ℕ) (sends : List (ℕ × MpMessage)) (packets : List Packet) (bytes : ℕ) (before : List MpLine) (network : MpNetwork) (lines : List MpLine) : Type 0 where
   pub stands : MpNetworkStands network (packets ++ map (packet_of k) sends) bytes

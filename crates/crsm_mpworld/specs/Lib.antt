@@ -1,6 +1,8 @@
 pub mod Disks
 pub mod Fits
 pub mod Sites
+pub mod Sent
+pub mod Views
 pub mod Packets
 pub mod World
 pub mod Effects

@@ -1,27 +1,33 @@
 -- The messages of a world, in memory.
-use Rattle.std.specs.Prelude.{◌≡◌, ◌<◌, ◌≤◌, ◌+◌, ◌-◌, ◌^◌, ◌++◌, ℕ, Bool, ◌&&◌, not, true, false, List, map, filter, length, Option, Some, option_map, slice_get, slice_set}
+use Rattle.std.specs.Prelude.{◌≡◌, ◌<◌, ◌≤◌, ◌+◌, ◌-◌, ◌^◌, ◌++◌, ℕ, Bool, ◌&&◌, not, true, false, List, map, filter, length, Option, Some, IsSome, option_map, slice_get, slice_set}
 use Rattle.std.specs.List.{AllByRecursion, range_with_len}
 use Rattle.std.specs.Option.{option_map_or}
 use Rattle.crsm_base.specs.Limits.{most_world}
 use Rattle.crsm_mpspec.specs.declared.input.MpInput.{MpInput}
-use Rattle.crsm_mpspec.specs.World.{Packet as PacketOnPaper}
+use Rattle.crsm_mpspec.specs.declared.message.MpMessage.{MpMessage}
+use Rattle.crsm_mpspec.specs.declared.line.MpKind.{MpKind}
+use Rattle.crsm_mpspec.specs.World.{Packet as PacketOnPaper, kind_of}
 use Rattle.crsm_mpreplica.specs.Fitting.{FitsMessage}
 use Rattle.crsm_mpworld.specs.declared.network.MpNetwork.{MpNetwork}
-use Rattle.crsm_mpworld.specs.declared.network.Packet.{Packet}
+use Rattle.crsm_mpworld.specs.declared.sent.PacketView.{PacketView}
+use Rattle.crsm_mpworld.specs.Sent.{PacketInMemory, message_from}
 
 -- ---- single messages
 
 -- the packet in memory for one of the definitions
-unfoldable pub in_memory : PacketOnPaper → Packet
-in_memory p = record { from = p.from; to = p.to; input = MpInput.Message p.message; is_used = p.used }
+unfoldable pub in_memory : PacketOnPaper → PacketInMemory
+in_memory p = record { to = p.to; is_used = p.used; message = Some (message_from p.from p.message) }
 
--- the packet in memory is this one of the definitions, and its message fits
-pub record IsPacket (m : Packet) (p : PacketOnPaper) : Type 0 where
-  pub is : m ≡ in_memory p
+-- the view is of this packet, whose message fits
+pub record IsPacket (m : PacketView) (p : PacketOnPaper) : Type 0 where
+  pub from : m.from ≡ p.from
+  pub to : m.to ≡ p.to
+  pub input : m.input.now ≡ MpInput.Message p.message
+  pub used : m.is_used ≡ p.used
   pub fits : FitsMessage p.message
 
--- the packet in memory is the one with this number
-abbrev pub IsPacketAt : List PacketOnPaper → ℕ → Packet → Type 0
+-- the view is of the packet with this number
+abbrev pub IsPacketAt : List PacketOnPaper → ℕ → PacketView → Type 0
 IsPacketAt packets i m = (p : PacketOnPaper) × (slice_get packets i ≡ Some p) × IsPacket m p
 
 -- message i was delivered or lost
@@ -63,13 +69,34 @@ pub record HasFresh (test : ℕ → Bool) (packets : List PacketOnPaper) (number
 
 -- The network holds these packets, each of whose messages fits, and this number of bytes is counted.
 pub record MpNetworkStands (network : MpNetwork) (packets : List PacketOnPaper) (bytes : ℕ) : Type 0 where
-  pub held : network.packets.items ≡ map in_memory packets
+  pub held : network.sent.packets ≡ map in_memory packets
   pub fit : AllByRecursion (λ p. FitsMessage p.message) packets
   pub fresh : HasFresh (λ k. true) packets (with_later network.fresh.items network.fresh_end packets)
   pub near : HasFresh (is_up_among network.ups.items) packets (with_later network.near.items network.near_end packets)
   pub fresh_end : network.fresh_end ≤ length packets
   pub near_end : network.near_end ≤ length packets
   pub counted : network.bytes ≡ bytes
+
+-- the message kept last is this one of replica k, and it fits
+pub record IsLast (network : MpNetwork) (k : ℕ) (message : MpMessage) : Type 0 where
+  pub is : network.sent.last ≡ Some (message_from k message)
+  pub fits : FitsMessage message
+
+-- a message was kept
+abbrev pub HasLast : MpNetwork → Type 0
+HasLast network = IsSome network.sent.last
+
+-- the message kept last is the same
+abbrev pub HasSameLast : (old new : MpNetwork) → Type 0
+HasSameLast old new = new.sent.last ≡ old.sent.last
+
+-- for the message that was kept last, and its sender
+abbrev pub WhereLast : MpNetwork → (ℕ → MpMessage → Type 0) → Type 0
+WhereLast network P = (k : ℕ) (message : MpMessage) → IsLast network k message → P k message
+
+-- for the message that replica k kept last, where it is of this kind
+abbrev pub WhereKept : MpNetwork → ℕ → MpKind → (MpMessage → Type 0) → Type 0
+WhereKept network k kind P = (message : MpMessage) → IsLast network k message → kind ≡ kind_of message → P message
 
 -- the world's size is below its limit
 abbrev pub IsOpen : MpNetwork → Type 0

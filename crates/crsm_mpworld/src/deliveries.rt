@@ -53,7 +53,7 @@ impl MpWorld {
         let effects = self.sites.arrive(
             u64::from(packet.to),
             ending,
-            &packet.input,
+            packet.input,
             packet.from,
             &mut self.made,
         )?;

@@ -13,6 +13,7 @@ mod network;
 mod outgoing;
 mod packets;
 mod place;
+mod sent;
 mod site;
 mod sites;
 mod stops;

@@ -1,27 +1,13 @@
 //! The messages by number, and the size of the log bodies.
 
-ghost use Rattle.std.specs.List.{AllByRecursion};
-ghost use Rattle.crsm_mpworld.specs.Fits.{FitsPacket};
-
-use crsm_mpspec::MpInput;
+use crate::sent::Packets;
 use std::alloc::Global;
-
-/// A message that was sent, with its sender and receiver.
-#[derive(Drop)]
-pub(crate) struct Packet {
-    pub(crate) from: u32,
-    pub(crate) to: u32,
-    /// The input of its receiver.
-    pub(crate) input: MpInput,
-    /// Whether it was delivered or lost.
-    pub(crate) is_used: bool,
-}
 
 /// All messages sent, by number, and the world's size in bytes.
 #[derive(Drop)]
 pub(crate) struct MpNetwork {
     pub(crate) alloc: Global,
-    pub(crate) packets: Vec<Packet>,
+    pub(crate) sent: Packets,
     /// The fresh messages with numbers below `fresh_end`, in ascending order. It may also have used ones.
     pub(crate) fresh: Vec<u64>,
     pub(crate) fresh_end: u64,
@@ -33,5 +19,4 @@ pub(crate) struct MpNetwork {
     pub(crate) near_end: u64,
     /// The bytes of all log bodies together.
     pub(crate) bytes: u64,
-    ghost fits: { ∥ AllByRecursion FitsPacket packets.items ∥₁ },
 }

@@ -1,11 +1,13 @@
 //! The sending of a step's output.
 
-ghost use Rattle.std.specs.Prelude.{◌≡◌, ◌++◌, [], ◌∷◌, ℕ, List, map, OnOk};
+ghost use Rattle.std.specs.Prelude.{◌≡◌, ◌<◌, ◌++◌, [], ◌∷◌, ℕ, List, length, map, OnOk};
 ghost use Rattle.std.specs.List.{AllByRecursion};
 ghost use Rattle.crsm_mpreplica.specs.Made.{to_send};
+ghost use Rattle.crsm_mpspec.specs.Sends as sends;
+ghost use Rattle.crsm_mpspec.specs.Sends.{others_below};
 ghost use Rattle.crsm_mpspec.specs.declared.message.MpMessage.{MpMessage as Message};
-ghost use Rattle.crsm_mpworld.specs.Effects.{FitsEffects, HasSent, LeadsOn, LetsOut, LetsOutSome, WhereLeft, WhereMade};
-ghost use Rattle.crsm_mpworld.specs.Packets.{IsOpen, WhereNetwork};
+ghost use Rattle.crsm_mpworld.specs.Effects.{FitsEffects, HasSent, LeadsOn, LetsOut, LetsOutSome, WhereLeft, WhereMade, to_each};
+ghost use Rattle.crsm_mpworld.specs.Packets.{HasLast, HasSameLast, IsOpen, WhereKept, WhereNetwork};
 ghost use Rattle.crsm_mpworld.specs.Fits.{FitsSend};
 
 use crate::ending::MpEffects;
@@ -13,30 +15,77 @@ use crate::lines::kind_of;
 use crate::network::MpNetwork;
 use crate::site::MpStep;
 use crsm_base::NoMemory;
-use crsm_mpspec::{MpLine, MpLines, MpSend, MpSends};
+use crsm_mpspec::{MpKind, MpLine, MpLines, MpMulticast, MpReceivers, MpSends};
 use std::mem;
 
-/// Records a message from replica `k`, and appends its line.
-fn send_one(
+/// Sends the message that replica `k` kept last to replica `to`, and appends its line. The message is of this kind.
+fn send_to(
     network: &mut MpNetwork,
     k: u32,
-    send: MpSend,
+    to: u32,
+    kind: MpKind,
     lines: &mut MpLines,
 ) -> Result<(), NoMemory>
-    requires { FitsSend send }
-    ensures { OnOk result (WhereNetwork network.old (λ packets bytes. HasSent k ((send.to, send.message) ∷ []) packets bytes lines.old network.new lines.new)) }
+    requires { HasLast network.old }
+    ensures sent { OnOk result (WhereKept network.old k kind (λ m. WhereNetwork network.old (λ packets bytes.
+        HasSent k ((to, m) ∷ []) packets bytes lines.old network.new lines.new))) }
+    ensures last { HasSameLast network.old network.new }
 {
     lines.push(MpLine::Send {
         index: network.count(),
         from: k,
-        to: send.to,
-        kind: kind_of(&send.message),
+        to,
+        kind,
     })?;
-    network.send(k, send)?;
+    network.send(to)?;
     Ok(())
 }
 
-/// Takes these messages from replica `k` out in order, records them, and appends their lines.
+/// Sends the message that replica `k` kept last to the replicas below `n` but `me`, in order, and appends their lines.
+/// The message is of this kind.
+fn send_to_others(
+    network: &mut MpNetwork,
+    k: u32,
+    me: u32,
+    n: u32,
+    kind: MpKind,
+    lines: &mut MpLines,
+) -> Result<(), NoMemory>
+    requires { HasLast network.old }
+    ensures { OnOk result (WhereKept network.old k kind (λ m. WhereNetwork network.old (λ packets bytes.
+        HasSent k (to_each m (others_below me n)) packets bytes lines.old network.new lines.new))) }
+{
+    for to in 0..n {
+        if to != me {
+            send_to(network, k, to, kind, lines)?;
+        }
+    }
+    Ok(())
+}
+
+/// Keeps a message of replica `k`, sends it to each of its receivers, and appends their lines.
+fn send_one(
+    network: &mut MpNetwork,
+    k: u32,
+    multicast: MpMulticast,
+    lines: &mut MpLines,
+) -> Result<(), NoMemory>
+    requires fit { AllByRecursion FitsSend (sends.sends_of multicast) }
+    requires some { 0 < length (sends.receivers multicast.receivers) }
+    ensures { OnOk result (WhereNetwork network.old (λ packets bytes.
+        HasSent k (to_each multicast.message (sends.receivers multicast.receivers)) packets bytes lines.old network.new lines.new)) }
+{
+    let MpMulticast { receivers, message } = multicast;
+    let kind = kind_of(&message);
+    network.hold(k, message)?;
+    match receivers {
+        MpReceivers::One { to } => send_to(network, k, to, kind, lines)?,
+        MpReceivers::Others { me, n } => send_to_others(network, k, me, n, kind, lines)?,
+    }
+    Ok(())
+}
+
+/// Takes these messages of replica `k` out in order, sends each, and appends their lines.
 fn send_each(
     network: &mut MpNetwork,
     k: u32,
@@ -47,27 +96,9 @@ fn send_each(
     ensures { OnOk result (WhereNetwork network.old (λ packets bytes. (out : List (ℕ × Message)) → sends.old ≡ map to_send out →
         HasSent k out packets bytes lines.old network.new lines.new)) }
 {
-    while let Some(send) = sends.pop_first() {
-        send_one(network, k, send, lines)?;
+    while let Some(multicast) = sends.pop_first() {
+        send_one(network, k, multicast, lines)?;
     }
-    Ok(())
-}
-
-/// Does the same. Often there are none.
-fn send_all(
-    network: &mut MpNetwork,
-    k: u32,
-    sends: &mut MpSends,
-    lines: &mut MpLines,
-) -> Result<(), NoMemory>
-    requires { AllByRecursion FitsSend sends.old }
-    ensures { OnOk result (WhereNetwork network.old (λ packets bytes. (out : List (ℕ × Message)) → sends.old ≡ map to_send out →
-        HasSent k out packets bytes lines.old network.new lines.new)) }
-{
-    if sends.len() == 0 {
-        return Ok(());
-    }
-    send_each(network, k, sends, lines)?;
     Ok(())
 }
 
@@ -107,19 +138,17 @@ fn let_out(
     requires room { IsOpen network.old }
     ensures { OnOk result (WhereMade network.old step.old (λ packets bytes x. LetsOutSome count lines.old packets bytes k x network.new lines.new)) }
 {
-    let made = step.batch.sends.len() as u64;
     network.keep(step.size);
     move_lines(&mut step.batch.lines, lines)?;
-    step.batch.sends.truncate(count.min(made) as usize);
-    send_all(network, k, &mut step.batch.sends, lines)?;
-    step.batch
-        .replies
-        .truncate(count.saturating_sub(made) as usize);
+    let left = step.batch.sends.truncate(count);
+    send_each(network, k, &mut step.batch.sends, lines)?;
+    step.batch.replies.truncate(left as usize);
     move_lines(&mut step.batch.replies, lines)?;
     Ok(())
 }
 
-/// Does the same for all messages and replies of the step.
+/// Sends all messages and replies of a durable step of replica `k`. The lines of its records are appended first, then
+/// those of the messages, then those of the replies.
 fn let_all_out(
     network: &mut MpNetwork,
     k: u32,
@@ -132,7 +161,7 @@ fn let_all_out(
 {
     network.keep(step.size);
     move_lines(&mut step.batch.lines, lines)?;
-    send_all(network, k, &mut step.batch.sends, lines)?;
+    send_each(network, k, &mut step.batch.sends, lines)?;
     move_lines(&mut step.batch.replies, lines)?;
     Ok(())
 }

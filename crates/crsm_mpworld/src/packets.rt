@@ -2,25 +2,15 @@
 
 ghost use Rattle.std.specs.Prelude.{◌≡◌, ◌+◌, ◌++◌, ◌∷◌, [], false, nat_le, length, slice_get, None, IfSome, MatchOption, OnOk};
 ghost use Rattle.crsm_base.specs.Limits.{most_world};
-ghost use Rattle.std.specs.List.{AllByRecursion};
 ghost use Rattle.crsm_mpspec.specs.World as on_paper;
-ghost use Rattle.crsm_mpworld.specs.Fits.{FitsPacket};
 ghost use Rattle.crsm_mpreplica.specs.Fitting.{FitsInput, FitsMessage};
-ghost use Rattle.crsm_mpworld.specs.Packets.{HasRoom, IsOpen, IsPacketAt, MpNetworkStands, WhereNetwork, is_used_at, receiver_of, used_up};
+ghost use Rattle.crsm_mpworld.specs.Packets.{HasLast, HasRoom, HasSameLast, IsLast, IsOpen, IsPacketAt, MpNetworkStands, WhereLast, WhereNetwork, is_used_at, receiver_of, used_up};
 
-use crate::network::{MpNetwork, Packet};
+use crate::network::MpNetwork;
+use crate::sent::{PacketView, Packets};
 use crsm_base::{MAX_WORLD_BYTES, NoMemory};
-use crsm_mpspec::{MpInput, MpSend};
+use crsm_mpspec::MpMessage;
 use std::alloc::Global;
-
-/// Appends a message.
-fn add(packets: &mut Vec<Packet>, packet: Packet) -> Result<(), NoMemory>
-    ensures ok { OnOk result (packets.new.items ≡ packets.old.items ++ packet ∷ []) }
-    ensures fit { FitsPacket packet → ∥ AllByRecursion FitsPacket packets.old.items ∥₁ → ∥ AllByRecursion FitsPacket packets.new.items ∥₁ }
-{
-    packets.push(packet)?;
-    Ok(())
-}
 
 impl MpNetwork {
     /// Returns the network before anything was sent.
@@ -29,7 +19,7 @@ impl MpNetwork {
     {
         MpNetwork {
             alloc,
-            packets: Vec::new(alloc),
+            sent: Packets::new(alloc),
             fresh: Vec::new(alloc),
             fresh_end: 0,
             ups: Vec::new(alloc),
@@ -66,16 +56,16 @@ impl MpNetwork {
     pub(crate) fn count(&self) -> u64
         ensures { WhereNetwork self.now (λ packets bytes. result ≡ length packets) }
     {
-        self.packets.len() as u64
+        self.sent.len()
     }
 
     /// Returns the message with this number, or `None` if it was not sent.
-    pub(crate) fn get(&self, number: u64) -> Option<&Packet>
+    pub(crate) fn get(&self, number: u64) -> Option<PacketView<'_>>
         ensures at { WhereNetwork self.now (λ packets bytes.
-            MatchOption result (slice_get packets number ≡ None) (λ m. IsPacketAt packets number m.now)) }
-        ensures fits { IfSome result (λ m. FitsInput m.now.input) }
+            MatchOption result (slice_get packets number ≡ None) (λ m. IsPacketAt packets number m)) }
+        ensures fits { IfSome result (λ m. FitsInput m.input.now) }
     {
-        self.packets.get(number as usize)
+        self.sent.get(number)
     }
 
     /// Returns whether the message with this number was delivered or lost.
@@ -105,26 +95,27 @@ impl MpNetwork {
         ensures room { IsOpen self.old → IsOpen self.new }
         ensures used { WhereNetwork self.old (λ packets bytes. MpNetworkStands self.new (used_up number packets) bytes) }
     {
-        if number < self.packets.len() as u64 {
-            let packet = &mut self.packets[number as usize];
-            packet.is_used = true;
-        }
+        self.sent.use_up(number);
     }
 
-    /// Records a message from replica `from`.
-    pub(crate) fn send(&mut self, from: u32, send: MpSend) -> Result<(), NoMemory>
-        requires { FitsMessage send.message }
-        ensures { OnOk result (WhereNetwork self.old (λ packets bytes.
-            MpNetworkStands self.new (packets ++ on_paper.packet_of from (send.to, send.message) ∷ []) bytes)) }
+    /// Keeps a message from replica `from`, which `send` sends until the next one is kept.
+    pub(crate) fn hold(&mut self, from: u32, message: MpMessage) -> Result<(), NoMemory>
+        requires { FitsMessage message }
+        ensures stands { WhereNetwork self.old (λ packets bytes. MpNetworkStands self.new packets bytes) }
+        ensures last { OnOk result (IsLast self.new from message) }
     {
-        let MpSend { to, message } = send;
-        let packet = Packet {
-            from,
-            to,
-            input: MpInput::Message { message },
-            is_used: false,
-        };
-        add(&mut self.packets, packet)?;
+        self.sent.keep(from, message)?;
+        Ok(())
+    }
+
+    /// Sends the message that was kept last to replica `to`.
+    pub(crate) fn send(&mut self, to: u32) -> Result<(), NoMemory>
+        requires { HasLast self.old }
+        ensures sent { OnOk result (WhereLast self.old (λ from message. WhereNetwork self.old (λ packets bytes.
+            MpNetworkStands self.new (packets ++ on_paper.packet_of from (to, message) ∷ []) bytes))) }
+        ensures last { HasSameLast self.old self.new }
+    {
+        self.sent.append(to)?;
         Ok(())
     }
 }

@@ -8,12 +8,12 @@ use Rattle.crsm_mpworld.specs.Packets.{MpNetworkStands}
 use Rattle.crsm_mpworld.proofs.Letting.{Going}
 use Rattle.crsm_mpworld.proofs.outgoing.send_each.Given as goal
 
-abbrev pub invariant-loop-send : goal.invariant-loop-send
-invariant-loop-send l = record {
+abbrev pub invariant-loop-multicast : goal.invariant-loop-multicast
+invariant-loop-multicast l = record {
   fits : AllByRecursion FitsSend l.sends;
   going : (packets : List on_paper.Packet) (bytes : ℕ) (out : List (ℕ × MpMessage)) → MpNetworkStands l.initial.network packets bytes → l.initial.sends ≡ map to_send out →
       Going l.k out l.sends packets bytes l.initial.lines l.network l.lines;
 }
 
-abbrev pub decreases-loop-send : goal.decreases-loop-send
-decreases-loop-send l = length l.sends
+abbrev pub decreases-loop-multicast : goal.decreases-loop-multicast
+decreases-loop-multicast l = length l.sends

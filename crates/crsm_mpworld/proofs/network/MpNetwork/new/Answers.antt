@@ -5,7 +5,7 @@ use Rattle.crsm_mpworld.proofs.network.MpNetwork.new.Goals as goal
 
 pub returns : goal.returns
 returns c = record {
-  held = c.new.ensures.items;
+  held = ap (λ s. s.packets) c.new.ensures;
   fit = tt;
   fresh = has_none (λ k. true) _ (ap (λ (is : List ℕ). is ++ []) c.new-2.ensures.items);
   near = has_none (is_up_among _) _ (ap (λ (is : List ℕ). is ++ []) c.new-4.ensures.items);

@@ -12,8 +12,8 @@ returns-in_default c v h =
 pub returns : goal.returns
 returns c v h =
     let ends = ending_of c.args.ending in
-    let m = c.in-Some.packet.now in
+    let m = c.in-Some.packet in
     let found = c.in-Some.ensures.at v.packets v.bytes h.network in
     on_count _ _ v.n _ _ _ _ h.n
-    (on_as _ _ _ _ _ _ _ (come_found ends v _ m found.0 found.1 found.2.is ∙ ap (λ k. step_at ends v k m.input m.from) (sym c.from.ensures))
+    (on_as _ _ _ _ _ _ _ (come_found ends v _ m found.0 found.1 found.2 ∙ ap (λ k. step_at ends v k m.input.now m.from) (sym c.from.ensures))
     (c.in_ok-leave.ensures _ v _ h.network (c.in_ok-effects.ensures.leaves v h.sites)))
