@@ -7,59 +7,109 @@ ghost use Rattle.crsm_cmd_soak.specs.Counting.{greatest, is_answer, is_drop, is_
 
 use crsm_base::Line;
 
-/// Returns the number of submitted commands among the lines.
+/// Returns whether the line tells of a submitted command.
 #[tactic(auto, unfolding(crate::specs::Counting::is_submission))]
+fn is_submission(line: &Line) -> bool
+    ensures { result ≡ is_submission line.now }
+{
+    matches!(line, Line::Submit { .. })
+}
+
+/// Returns the number of submitted commands among the lines.
 pub(crate) fn submissions(lines: &[Line]) -> u64
     ensures { result ≡ count_by is_submission lines.now }
 {
-    lines
-        .iter()
-        .filter(|line| matches!(line, Line::Submit { .. }))
-        .count() as u64
+    let mut count: u64 = 0;
+    for line in lines {
+        if is_submission(line) {
+            count += 1;
+        }
+    }
+    count
+}
+
+/// Returns whether the line is an answer.
+#[tactic(auto, unfolding(crate::specs::Counting::is_answer))]
+fn is_answer(line: &Line) -> bool
+    ensures { result ≡ is_answer line.now }
+{
+    matches!(line, Line::ReplyOk { .. })
 }
 
 /// Returns the number of answers among the lines.
-#[tactic(auto, unfolding(crate::specs::Counting::is_answer))]
 pub(crate) fn answers(lines: &[Line]) -> u64
     ensures { result ≡ count_by is_answer lines.now }
 {
-    lines
-        .iter()
-        .filter(|line| matches!(line, Line::ReplyOk { .. }))
-        .count() as u64
+    let mut count: u64 = 0;
+    for line in lines {
+        if is_answer(line) {
+            count += 1;
+        }
+    }
+    count
+}
+
+/// Returns whether the line is a refusal.
+#[tactic(auto, unfolding(crate::specs::Counting::is_refusal))]
+fn is_refusal(line: &Line) -> bool
+    ensures { result ≡ is_refusal line.now }
+{
+    matches!(line, Line::ReplyNo { .. })
 }
 
 /// Returns the number of refusals among the lines.
-#[tactic(auto, unfolding(crate::specs::Counting::is_refusal))]
 pub(crate) fn refusals(lines: &[Line]) -> u64
     ensures { result ≡ count_by is_refusal lines.now }
 {
-    lines
-        .iter()
-        .filter(|line| matches!(line, Line::ReplyNo { .. }))
-        .count() as u64
+    let mut count: u64 = 0;
+    for line in lines {
+        if is_refusal(line) {
+            count += 1;
+        }
+    }
+    count
+}
+
+/// Returns whether the line is a reply that a command is dropped.
+#[tactic(auto, unfolding(crate::specs::Counting::is_drop))]
+fn is_drop(line: &Line) -> bool
+    ensures { result ≡ is_drop line.now }
+{
+    matches!(line, Line::ReplyDropped { .. })
 }
 
 /// Returns the number of replies among the lines that a command is dropped.
-#[tactic(auto, unfolding(crate::specs::Counting::is_drop))]
 pub(crate) fn drops(lines: &[Line]) -> u64
     ensures { result ≡ count_by is_drop lines.now }
 {
-    lines
-        .iter()
-        .filter(|line| matches!(line, Line::ReplyDropped { .. }))
-        .count() as u64
+    let mut count: u64 = 0;
+    for line in lines {
+        if is_drop(line) {
+            count += 1;
+        }
+    }
+    count
+}
+
+/// Returns whether the line tells of a datagram sent.
+#[tactic(auto, unfolding(crate::specs::Counting::is_send))]
+fn is_send(line: &Line) -> bool
+    ensures { result ≡ is_send line.now }
+{
+    matches!(line, Line::Send { .. })
 }
 
 /// Returns the number of datagrams sent among the lines.
-#[tactic(auto, unfolding(crate::specs::Counting::is_send))]
 pub(crate) fn sends(lines: &[Line]) -> u64
     ensures { result ≡ count_by is_send lines.now }
 {
-    lines
-        .iter()
-        .filter(|line| matches!(line, Line::Send { .. }))
-        .count() as u64
+    let mut count: u64 = 0;
+    for line in lines {
+        if is_send(line) {
+            count += 1;
+        }
+    }
+    count
 }
 
 /// Returns the executed length in a final line, 0 for other lines.
