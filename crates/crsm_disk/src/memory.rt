@@ -27,9 +27,11 @@ pub struct MemDisk {
     stop: Option<u64>,
     fill: u8,
     faults: u64,
+    // Both change with each call. Between them stands a field, so that they are not read as one right after they were
+    // written as two, which would wait for the writes.
     room_calls: u64,
-    room_bytes: u64,
     renewed: Option<u64>,
+    room_bytes: u64,
 }
 
 // Written by hand, it is one call for the crates above, which would prove a derived one again.
