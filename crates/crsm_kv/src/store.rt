@@ -61,13 +61,20 @@ impl Store {
         ensures done { IfOk result (λ answer. (self.new, answer) ≡ apply self.old command.now) }
         ensures err { OnErr result (self.new ≡ self.old) }
     {
-        match clients::last_of(&self.clients, command.client) {
-            Some((_, kept)) if command.number == kept.number => kept.answer.copy(self.alloc),
-            Some((_, kept)) if command.number < kept.number => Ok(Answer::Stale(kept.number)),
-            Some((place, _)) => self.execute(Some(place), command),
-            None if clients::count(&self.clients) >= MAX_CLIENTS as usize => Ok(Answer::NoRoom),
-            None => self.execute(None, command),
-        }
+        let place = match clients::last_of(&self.clients, command.client) {
+            Some((_, kept)) if command.number == kept.number => {
+                return kept.answer.copy(self.alloc);
+            }
+            Some((_, kept)) if command.number < kept.number => {
+                return Ok(Answer::Stale(kept.number));
+            }
+            Some((place, _)) => Some(place),
+            None if clients::count(&self.clients) >= MAX_CLIENTS as usize => {
+                return Ok(Answer::NoRoom);
+            }
+            None => None,
+        };
+        self.execute(place, command)
     }
 
     #[tactic(auto, unfolding(crsm_base::specs::Store::done))]
