@@ -7,3 +7,4 @@ pub mod Hex
 pub mod Rows
 mod Copies
 mod Digits
+mod Lower

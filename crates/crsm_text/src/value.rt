@@ -1,6 +1,8 @@
 //! Parsing of keys and values in hexadecimal.
 
 ghost use Rattle.std.specs.Prelude.{◌≡◌, ℕ, ◌<◌, ◌++◌, List, Option, IfOk, MatchResult, length};
+ghost use Rattle.std.specs.Char.{is_ascii_uppercase};
+ghost use Rattle.std.specs.List.{list_any};
 ghost use Rattle.hex.specs.Hex.{encode_lower, IsBytes};
 ghost use Rattle.crsm_base.specs.Spelling.{FitsKey, FitsVal, FitsOption};
 ghost use Rattle.crsm_text.specs.Values.{value_text, option_text};
@@ -15,16 +17,20 @@ pub fn hex_of(alloc: Global, word: &[u8]) -> Result<Vec<u8>, LineError>
     ensures found { IfOk result (λ bytes. IsBytes bytes.items × (word.now ≡ encode_lower bytes.items)) }
     ensures only { (bytes : List ℕ) → IsBytes bytes → word.now ≡ encode_lower bytes → MatchResult result (λ made. made.items ≡ bytes) (λ e. e ≡ LineError.NoMemory) }
 {
-    let bytes = match hex::decode(alloc, word) {
-        Ok(bytes) => bytes,
-        Err(error) => return Err(refusal(error)),
-    };
-    let again = hex::encode(alloc, bytes.as_slice())?;
-    if again.as_bytes() == word {
-        Ok(bytes)
-    } else {
-        Err(LineError::Unreadable)
+    if has_capitals(word) {
+        return Err(LineError::Unreadable);
     }
+    match hex::decode(alloc, word) {
+        Ok(bytes) => Ok(bytes),
+        Err(error) => Err(refusal(error)),
+    }
+}
+
+/// Returns whether the word has a capital letter, which hexadecimal digits can be too.
+fn has_capitals(word: &[u8]) -> bool
+    ensures { result ≡ list_any is_ascii_uppercase word.now }
+{
+    word.iter().any(|byte| byte.is_ascii_uppercase())
 }
 
 /// Parses a key of 1 to 64 bytes in hexadecimal. `Unreadable` if the word is none.
