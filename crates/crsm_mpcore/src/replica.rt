@@ -1,13 +1,14 @@
 //! The replica in memory: its boot and its steps.
 
-ghost use Rattle.std.specs.Prelude.{◌<◌, ◌≤◌, IsErr, OnOk};
+ghost use Rattle.std.specs.Prelude.{◌<◌, ◌≤◌, ◌∷◌, IsErr, OnOk};
 ghost use Rattle.crsm_mpspec.specs.Log.{Log};
+ghost use Rattle.crsm_mpspec.specs.declared.rec.MpRec.{MpRec as Record};
 ghost use Rattle.crsm_mpspec.specs.Replica.{fresh};
 ghost use Rattle.crsm_mpspec.specs.Step as steps;
 ghost use Rattle.crsm_mpledger.specs.MpLedger.{MpLedgerStands};
 ghost use Rattle.crsm_mpreplica.specs.Fitting.{FitsInput};
 ghost use Rattle.crsm_mpreplica.specs.Made.{Answers, outcome_of};
-ghost use Rattle.crsm_mpcore.specs.Core.{IsSpent, MpCoreStands, WhereCore};
+ghost use Rattle.crsm_mpcore.specs.Core.{CanBoot, IsSpent, MpCoreStands, WhereCore};
 
 use crate::step;
 use crsm_base::NoMemory;
@@ -25,7 +26,7 @@ pub struct MpCore {
 }
 
 impl MpCore {
-    /// Returns replica `me` of `n`, which has just booted and recorded the boot in this ledger.
+    /// Returns replica `me` of `n` with this ledger, which keeps no more than its log says.
     pub fn new(alloc: Global, me: u32, n: u32, ledger: MpLedger) -> MpCore
         requires mine { me < n }
         requires most { n ≤ 15 }
@@ -65,10 +66,14 @@ impl MpCore {
         self.state.ledger()
     }
 
-    /// Stops the replica, and returns its ledger.
-    pub fn into_ledger(self) -> MpLedger
-        ensures { WhereCore self (λ r. MpLedgerStands result r.log) }
+    /// Boots replica `me` of `n` anew on the same ledger, in which the boot is recorded: what is not in its log is lost.
+    /// There must have been fewer than 2^64 - 1 boots.
+    pub fn boot(&mut self, me: u32, n: u32)
+        requires mine { me < n }
+        requires most { n ≤ 15 }
+        requires few { CanBoot self.old }
+        ensures { WhereCore self.old (λ r. MpCoreStands self.new (fresh me n (Record.Boot ∷ r.log))) }
     {
-        self.state.into_ledger()
+        self.state.boot(me, n);
     }
 }

@@ -5,9 +5,9 @@ use Rattle.crsm_base.specs.declared.memory.NoMemory.{NoMemory}
 use Rattle.crsm_spec.specs.Choice.{when◌then◌otherwise◌}
 use Rattle.crsm_mpspec.specs.Log.{executed}
 use Rattle.crsm_mpspec.specs.Types.{Command}
-use Rattle.crsm_mpspec.specs.Replica.{Waiting}
-use Rattle.crsm_mpspec.specs.Draft.{Draft}
-use Rattle.crsm_mpledger.specs.MpLedger.{MpLedgerStands}
+use Rattle.crsm_mpspec.specs.Replica.{Replica, Waiting}
+use Rattle.crsm_mpspec.specs.Draft.{Draft, begun}
+use Rattle.crsm_mpledger.specs.MpLedger.{MayBoot, MpLedgerStands}
 use Rattle.crsm_mpreplica.specs.declared.state.MpReplica.{MpReplica}
 use Rattle.crsm_mpreplica.specs.Made.{MadeStands, outcome_of}
 use Rattle.crsm_mpreplica.specs.Notes.{NoteStands}
@@ -28,6 +28,18 @@ pub record MpReplicaStands (state : MpReplica) (x : Draft) : Type 0 where
 -- for each draft that the state stands for
 abbrev pub WhereStands : MpReplica → (Draft → Type 0) → Type 0
 WhereStands state P = (x : Draft) → MpReplicaStands state x → P x
+
+-- the state stands for this replica between two steps
+abbrev pub IsReplica : MpReplica → Replica → Type 0
+IsReplica state r = MpReplicaStands state (begun r)
+
+-- for each replica that the state stands for between two steps
+abbrev pub WhereReplica : MpReplica → (Replica → Type 0) → Type 0
+WhereReplica state P = (r : Replica) → IsReplica state r → P r
+
+-- one boot more can be counted
+abbrev pub CanBoot : MpReplica → Type 0
+CanBoot state = MayBoot state.ledger
 
 -- Whatever the old state stood for, the new one stands for the effect of this on it; or memory ran out.
 abbrev pub Makes : (Draft → Draft) → MpReplica → Result (Unit {0}) NoMemory → MpReplica → Type 0

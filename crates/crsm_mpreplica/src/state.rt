@@ -1,8 +1,9 @@
 //! The state of a replica in memory.
 
-ghost use Rattle.std.specs.Prelude.{◌≡◌, ◌<◌, ◌≤◌};
+ghost use Rattle.std.specs.Prelude.{◌≡◌, ◌<◌, ◌≤◌, ◌∷◌};
 ghost use Rattle.crsm_mpspec.specs.Draft as drafts;
 ghost use Rattle.crsm_mpspec.specs.Log.{Log};
+ghost use Rattle.crsm_mpspec.specs.declared.rec.MpRec.{MpRec as Record};
 ghost use Rattle.crsm_mpspec.specs.Replica.{fresh};
 ghost use Rattle.crsm_mpledger.specs.MpLedger.{MpLedgerStands};
 
@@ -31,7 +32,7 @@ pub struct MpReplica {
 impl MpReplica {
     ghost use Rattle.crsm_mpreplica.specs.Made.{Answers, outcome_of};
     ghost use Rattle.crsm_mpreplica.specs.Notes.{NoteStands};
-    ghost use Rattle.crsm_mpreplica.specs.State.{MpReplicaStands, WhereStands};
+    ghost use Rattle.crsm_mpreplica.specs.State.{CanBoot, IsReplica, MpReplicaStands, WhereReplica, WhereStands};
 
     /// Returns the replica of a ledger, at the beginning of a boot.
     pub fn new(alloc: Global, me: u32, n: u32, ledger: MpLedger) -> MpReplica
@@ -81,11 +82,19 @@ impl MpReplica {
         &self.ledger
     }
 
-    /// Stops the replica, and returns its ledger.
-    pub fn into_ledger(self) -> MpLedger
-        ensures { WhereStands self (λ x. MpLedgerStands result x.replica.log) }
+    /// Boots replica `me` of `n` anew on the same ledger, in which the boot is recorded: its stage in an election and the
+    /// clients that wait are forgotten.
+    pub fn boot(&mut self, me: u32, n: u32)
+        requires mine { me < n }
+        requires most { n ≤ 15 }
+        requires few { CanBoot self.old }
+        ensures { WhereReplica self.old (λ r. IsReplica self.new (fresh me n (Record.Boot ∷ r.log))) }
     {
-        self.ledger
+        self.ledger.boot();
+        self.me = me;
+        self.n = n;
+        self.note = Note::Idle;
+        self.waiting = BTreeMap::new(self.alloc);
     }
 
     /// Returns its stage in an election.

@@ -1,15 +1,15 @@
 -- The facts of a possible act.
-use Rattle.std.proofs.Common.{◌≡◌, ◌<◌, ℕ, zero, suc, Bool, true, false, not, List, [], ◌∷◌, length, Option, Some, None, refl, ap, sym, ◌∙◌, arith}
+use Rattle.std.proofs.Common.{◌≡◌, ◌<◌, ℕ, zero, suc, Bool, true, false, not, List, [], ◌∷◌, length, Option, Some, None, refl, arith}
 use Rattle.std.specs.Prelude.{slice_get, option_map}
 use Rattle.std.specs.Option.{option_map_or}
 use Rattle.std.proofs.lemmas.Bool.{leb-false}
-use Rattle.crsm_spec.specs.Acts.{Act, Single, Bad}
+use Rattle.crsm_spec.specs.Acts.{Act, Bad}
 use Rattle.crsm_spec.specs.Choice.{when◌then◌otherwise◌}
 use Rattle.crsm_spec.specs.Possible.{first_bad}
 use Rattle.crsm_mpspec.specs.Log.{Log}
 use Rattle.crsm_mpspec.specs.Replica.{Replica}
-use Rattle.crsm_mpspec.specs.World.{Site, Packet, World, is_up, is_up_at, is_full}
-use Rattle.crsm_mpspec.specs.Possible.{Cause, possible, causes_of, causes_of_single, causes_at, is_not_here, is_none_of, is_down_at, is_not_sent, is_receiver_down, is_used}
+use Rattle.crsm_mpspec.specs.World.{Site, World, is_up, is_up_at, is_full}
+use Rattle.crsm_mpspec.specs.Possible.{Cause, possible, causes_of, causes_at, is_not_here, is_none_of, is_down_at}
 
 -- ---- causes
 
@@ -59,10 +59,6 @@ pub up_here : (v : World) (k : ℕ) → first_bad (causes_at v k) ≡ None → I
 unfolding causes_at
 up_here v k e = up_there v k (first_none (is_down_at v k) _ _ (first_none (is_none_of v k) _ _ e).1).0
 
-pub up_to_lead : (v : World) (k t : ℕ) (ms : List ℕ) → first_bad (causes_of_single v (Single.Suspect k t ms)) ≡ None → IsUp v k
-unfolding causes_of_single
-up_to_lead v k t ms e = up_there v k (first_none (is_down_at v k) _ _ (first_none _ _ _ e).1).0
-
 -- replica k is down with some log
 abbrev pub IsDown : World → ℕ → Type 0
 IsDown v k = (log : Log) × (slice_get v.sites k ≡ Some (Site.Down log))
@@ -80,34 +76,3 @@ can_start v k e =
     let f = first_none _ _ _ e in
     let g = first_none (option_map_or is_up (slice_get v.sites k) false) _ _ f.1 in
     down_there v.sites k (leb-false (length v.sites) k f.0) g.0
-
--- ---- messages
-
--- message i was sent, and its receiver is up
-abbrev pub CanCome : World → ℕ → Type 0
-CanCome v i = (p : Packet) × (slice_get v.packets i ≡ Some p) × IsUp v p.to
-
-some_there : (ps : List Packet) (i : ℕ) → i < length ps → (p : Packet) × (slice_get ps i ≡ Some p)
-some_there [] i l = absurd (omega arith)
-some_there (p ∷ ps) zero l = (p, refl)
-some_there (p ∷ ps) (suc i) l = some_there ps i (omega arith)
-
-comes : (v : World) (i : ℕ) → is_not_sent v i ≡ false → is_receiver_down v i ≡ false → CanCome v i
-unfolding is_not_sent is_receiver_down
-comes v i e f =
-    let m = some_there v.packets i (leb-false (length v.packets) i e) in
-    (m.0, m.1, up_there v m.0.to (sym (ap (λ o. option_map_or (λ p. is_down_at v p.to) o false) m.1) ∙ f))
-
-pub can_go : (v : World) (i t : ℕ) → first_bad (causes_of_single v (Single.Go i t)) ≡ None → CanCome v i
-unfolding causes_of_single
-can_go v i t e =
-    let f = first_none (is_not_sent v i) _ _ e in
-    let g = first_none (is_used v i) _ _ f.1 in
-    comes v i f.0 (first_none (is_receiver_down v i) _ _ g.1).0
-
-pub can_come_again : (v : World) (i t : ℕ) → first_bad (causes_of_single v (Single.Again i t)) ≡ None → CanCome v i
-unfolding causes_of_single
-can_come_again v i t e =
-    let f = first_none (is_not_sent v i) _ _ e in
-    let g = first_none (not (is_used v i)) _ _ f.1 in
-    comes v i f.0 (first_none (is_receiver_down v i) _ _ g.1).0

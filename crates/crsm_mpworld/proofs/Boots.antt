@@ -17,12 +17,10 @@ use Rattle.crsm_mpspec.specs.Replica.{fresh, note_after}
 use Rattle.crsm_mpspec.specs.Draft.{begun, keep, keep_as}
 use Rattle.crsm_mpspec.specs.Step.{boot}
 use Rattle.crsm_mpspec.specs.World.{body_size}
-use Rattle.crsm_mpledger.specs.declared.ledger.MpLedger.{MpLedger}
-use Rattle.crsm_mpledger.specs.MpLedger.{MayBoot}
 use Rattle.crsm_mpledger.specs.Sound.{AreBodies, with_records}
 use Rattle.crsm_mpcore.specs.declared.replica.MpCore.{MpCore}
-use Rattle.crsm_mpcore.specs.Core.{MpCoreStands}
-use Rattle.crsm_mpworld.specs.Disks.{IsDisk, IsSomeLeft, IsUpOn, bytes_of}
+use Rattle.crsm_mpcore.specs.Core.{CanBoot, MpCoreStands}
+use Rattle.crsm_mpworld.specs.Disks.{IsDisk, IsSomeOn, IsOn, bytes_of}
 use Rattle.crsm_mpworld.proofs.Disks.{body_some, rec_some, spelt_body, with_body}
 
 -- a boot leaves nothing but one record more
@@ -42,23 +40,32 @@ pub boot_count : (log : Log) → boots (MpRec.Boot ∷ log) ≡ boots log + 1
 unfolding boots is_boot
 boot_count log = counted 0 log
 
+-- the boots that the log of a replica counts, which has just booted
+pub fresh_boots : (me n : ℕ) (log : Log) (count : ℕ) → count ≡ boots (fresh me n (MpRec.Boot ∷ log)).log → count ≡ boots log + 1
+unfolding fresh
+fresh_boots me n log count is = is ∙ boot_count log
+
 pub boot_body : 0 < length (body_bytes (MpRec.Boot ∷ []))
 boot_body = body_some (MpRec.Boot ∷ []) (omega arith)
 
-core_fresh : {g : _} (core : MpCore) (new_log : DiskLog Memory g) (me n : ℕ) (log : Log) → MpCoreStands core (fresh me n log) → IsDisk (disk_of new_log) log →
-    IsUpOn core new_log (fresh me n log)
+pub log_of_fresh : (me n : ℕ) (log : Log) → (fresh me n log).log ≡ log
 unfolding fresh
-core_fresh core new_log me n log stands kept = record { stands = stands; kept = kept }
+log_of_fresh me n log = refl
 
--- The body of a boot was put on the disk, and a core was made of a ledger that counts it.
+-- a core of a log that is on the disk, before its first step
+pub core_fresh : {g : _} (core : MpCore) (new_log : DiskLog Memory g) (me n : ℕ) (log : Log) → MpCoreStands core (fresh me n log) → IsDisk (disk_of new_log) log →
+    IsOn core new_log (fresh me n log)
+core_fresh core new_log me n log stands kept = record { stands = stands; kept = subst (IsDisk (disk_of new_log)) (sym (log_of_fresh me n log)) kept }
+
+-- The body of a boot was put on the disk, and the core counts it.
 pub booted : {g : _} (core : MpCore) (old_log new_log : DiskLog Memory g) (me n : ℕ) (log : Log) (body put : List ℕ) → body ≡ body_bytes (MpRec.Boot ∷ []) → put ≡ body →
     IsDisk (disk_of old_log) log → reading (bytes_of (disk_of new_log)) ≡ found (bodies_of (bytes_of (disk_of old_log)) ++ put ∷ []) →
-    MpCoreStands core (fresh me n (MpRec.Boot ∷ log)) → IsUpOn core new_log (boot me n log).replica
+    MpCoreStands core (fresh me n (MpRec.Boot ∷ log)) → IsOn core new_log (boot me n log).replica
 booted core old_log new_log me n log body put is e h now stands =
     let recs = MpRec.Boot ∷ [] in
     let spelt : SpeltBody recs put = subst (SpeltBody recs) (sym (e ∙ is)) (spelt_body recs (tt, tt) (omega arith)) in
     let kept = with_body (disk_of old_log) (disk_of new_log) log recs put h spelt (tt, h.sound) now in
-    subst (IsUpOn core new_log) (sym (boot_is me n log)) (core_fresh core new_log me n (MpRec.Boot ∷ log) stands kept)
+    subst (IsOn core new_log) (sym (boot_is me n log)) (core_fresh core new_log me n (MpRec.Boot ∷ log) stands kept)
 
 -- ---- a log has fewer boots than bytes
 
@@ -110,11 +117,12 @@ unfolding boots
 no_boots = refl
 
 -- so one more can be counted
-pub can_boot : {g : _} (ledger : MpLedger) (on_disk : DiskLog Memory g) (end : ℕ) → IsSettled (meaning_of (disk_of on_disk)) end → end ≤ 2 ^ 62 → ∥ IsSomeLeft ledger on_disk ∥₁ → MayBoot ledger
-can_boot ledger on_disk end settled small some =
+pub can_boot : {g : _} (core : MpCore) (on_disk : DiskLog Memory g) (end : ℕ) → IsSettled (meaning_of (disk_of on_disk)) end → end ≤ 2 ^ 62 → ∥ IsSomeOn core on_disk ∥₁ → CanBoot core
+unfolding begun
+can_boot core on_disk end settled small some =
     ∥∥₁_elim some (hlevel props) (λ s.
-    let few = boots_are [] s.log (bodies_of (bytes_of (disk_of on_disk))) s.is.kept.bodies in
+    let few = boots_are [] s.replica.log (bodies_of (bytes_of (disk_of on_disk))) s.is.kept.bodies in
     let text = items_text (items_of (bytes_of (disk_of on_disk))) in
     let place = settled.place in
-    let is = s.is.stands.boots in
+    let is = s.is.stands.stands.ledger.boots in
     let none = no_boots in omega (arith, few, text, place, small, is, none))

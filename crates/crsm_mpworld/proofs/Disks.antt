@@ -25,7 +25,7 @@ use Rattle.crsm_mpledger.specs.Sound.{IsSound, AreBodies, with_records}
 use Rattle.crsm_mpcore.specs.declared.replica.MpCore.{MpCore}
 use Rattle.crsm_mpcore.specs.Core.{MpCoreStands}
 use Rattle.crsm_mpworld.specs.Fits.{FitsSend}
-use Rattle.crsm_mpworld.specs.Disks.{IsDisk, IsSomeUp, IsUpOn, bytes_of}
+use Rattle.crsm_mpworld.specs.Disks.{IsDisk, IsSomeOn, IsOn, bytes_of}
 use Rattle.crsm_mpworld.proofs.Fits.{records_prop, sends_prop}
 use Rattle.crsm_mpworld.proofs.Growing.{step_grows}
 
@@ -86,11 +86,7 @@ pub with_body : (old new : Memory) (log : Log) (recs : List MpRec) (body : List 
 with_body old new log recs body h spelt sound is =
     on_disk new (bodies_of (bytes_of old) ++ body ∷ []) (with_records log recs) is (bodies_push [] log (bodies_of (bytes_of old)) body recs h.bodies spelt) sound
 
--- an empty disk
-pub empty_disk : IsDisk (holding [] [] None 0) []
-empty_disk = record { sound = tt; whole = refl; bodies = refl }
-
--- from which no bodies are read
+-- no bodies are read from an empty disk
 pub empty_bodies : (disk : Memory) (bodies : List (List ℕ)) → disk ≡ holding [] [] None 0 → reading (bytes_of disk) ≡ found bodies → bodies ≡ []
 empty_bodies disk bodies e is = ap bodies_in (sym is ∙ ap (λ d. reading (bytes_of d)) e)
 
@@ -100,17 +96,17 @@ unfolding begun
 core_sound core r h = h.stands.ledger.sound
 
 -- A core has made a step, whose records are kept.
-pub stepped : {g : _} (core new_core : MpCore) (log new_log : DiskLog Memory g) (r : Replica) (input : MpInput) (from : ℕ) (recs : List MpRec) → IsUpOn core log r →
+pub stepped : {g : _} (core new_core : MpCore) (log new_log : DiskLog Memory g) (r : Replica) (input : MpInput) (from : ℕ) (recs : List MpRec) → IsOn core log r →
     recs ≡ (step r input from).batch → MpCoreStands new_core (step r input from).replica →
     ((kept : Log) → IsDisk (disk_of log) kept → IsSound (with_records kept recs) → IsDisk (disk_of new_log) (with_records kept recs)) →
-    IsUpOn new_core new_log (step r input from).replica
+    IsOn new_core new_log (step r input from).replica
 stepped core new_core log new_log r input from recs up is stands keeps =
     let whole : with_records r.log recs ≡ (step r input from).replica.log = ap (with_records r.log) is ∙ sym (step_grows r input from) in
     let sound = subst IsSound (sym whole) (core_sound new_core (step r input from).replica stands) in
     record { stands = stands; kept = subst (IsDisk (disk_of new_log)) whole (keeps r.log up.kept sound) }
 
 -- the records of a step fit, whatever replica the core is
-pub batch_fits : {g : _} (core : MpCore) (log : DiskLog Memory g) (input : MpInput) (from : ℕ) (batch : MpBatch) → ∥ IsSomeUp core log ∥₁ →
+pub batch_fits : {g : _} (core : MpCore) (log : DiskLog Memory g) (input : MpInput) (from : ℕ) (batch : MpBatch) → ∥ IsSomeOn core log ∥₁ →
     ((r : Replica) → MpCoreStands core r → Answers batch (outcome_of (step r input from))) → AllByRecursion FitsRec batch.records
 batch_fits core log input from batch some made =
     ∥∥₁_elim some (records_prop batch.records) (λ s.
@@ -122,7 +118,7 @@ unfolding to_send
 fit_mapped [] fit = tt
 fit_mapped (x ∷ xs) fit = (fit.0, fit_mapped xs fit.1)
 
-pub batch_sends : {g : _} (core : MpCore) (log : DiskLog Memory g) (input : MpInput) (from : ℕ) (batch : MpBatch) → ∥ IsSomeUp core log ∥₁ →
+pub batch_sends : {g : _} (core : MpCore) (log : DiskLog Memory g) (input : MpInput) (from : ℕ) (batch : MpBatch) → ∥ IsSomeOn core log ∥₁ →
     ((r : Replica) → MpCoreStands core r → Answers batch (outcome_of (step r input from))) → AllByRecursion FitsSend batch.sends
 batch_sends core log input from batch some made =
     ∥∥₁_elim some (sends_prop batch.sends) (λ s.

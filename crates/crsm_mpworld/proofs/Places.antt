@@ -1,28 +1,20 @@
 -- Sites in memory and in the definitions, one by one.
-use Rattle.std.proofs.Common.{◌≡◌, ◌<◌, ◌≤◌, ◌+◌, ℕ, zero, suc, Bool, true, false, cond, ltb, List, [], ◌∷◌, ◌++◌, length, map, take, get_or, set, replicate, Some, None, refl, ap, sym, ◌∙◌, subst, arith, take_all}
-use Rattle.std.specs.Prelude.{IfSome, slice_get}
+use Rattle.std.proofs.Common.{◌≡◌, ◌<◌, ◌≤◌, ◌+◌, ℕ, zero, suc, Bool, true, false, cond, ltb, List, [], ◌∷◌, ◌++◌, length, map, take, get_or, set, replicate, Option, Some, None, refl, ap, sym, ◌∙◌, subst, arith, take_all}
+use Rattle.std.specs.Prelude.{slice_get}
 use Rattle.std.specs.List.{enumerate_from}
 use Rattle.std.specs.Option.{option_map_or}
 use Rattle.std.proofs.lemmas.Bool.{ltb-true, ltb-false, lt-ltb}
 use Rattle.std.proofs.lemmas.List.{take_more, map-append, replicate_more}
 use Rattle.std.proofs.lemmas.List.FromFn.{length-enumerate_from, get_or-enumerate_from}
-use Rattle.std.proofs.lemmas.Option.{slice_get_past, slice_get-get_or, get_or_from_slice_get}
+use Rattle.std.proofs.lemmas.Option.{none-some, slice_get_past, slice_get-get_or, get_or_from_slice_get}
 use Rattle.crsm_mpspec.specs.declared.line.MpLine.{MpLine}
 use Rattle.crsm_mpspec.specs.World.{Site as Place, is_up, final_line}
 use Rattle.crsm_mpworld.specs.declared.place.Site.{Site}
-use Rattle.crsm_mpworld.specs.declared.place.SiteState.{SiteState as PlaceInMemory}
-use Rattle.crsm_mpworld.proofs.Gets.{got}
-use Rattle.crsm_mpworld.specs.Sites.{IsIn, SiteStands, SitesStand, is_up_in, up_in}
+use Rattle.crsm_mpworld.specs.Sites.{SiteStands, SitesStand, is_up_in, up_in}
 
--- what is known of a site that was looked up, and of one that is taken by its number
-pub looked_up : (ss ys : List Site) (k : ℕ) (s : Site) (P : Site → Type 0) → ys ≡ ss → true ≡ ltb k (length ys) → s ≡ get_or ys k s → P s →
-    (k < length ss) × IfSome (slice_get ss k) P
-looked_up ss ys k s P e b is p =
-    let there = ap (λ xs. slice_get xs k) (sym e) ∙ got ys k s b is in
-    (let l = ltb-true k (length ys) (sym b) in let f = ap length e in omega (arith, l, f), subst (λ o. IfSome o P) (sym there) p)
-
-pub taken : (ss : List Site) (k : ℕ) (s : Site) (P : Site → Type 0) → k < length ss → s ≡ get_or ss k s → IfSome (slice_get ss k) P → P s
-taken ss k s P l is h = subst (λ o. IfSome o P) (slice_get-get_or ss k s l ∙ ap Some (sym is)) h
+-- a site that was looked up is there
+pub looked_up : (ss ys : List Site) (k : ℕ) → ys ≡ ss → true ≡ ltb k (length ys) → k < length ss
+looked_up ss ys k e b = let l = ltb-true k (length ys) (sym b) in let f = ap length e in omega (arith, l, f)
 
 module _ (n : ℕ) where
   pub sites_length : (k : ℕ) (ss : List Site) (ps : List Place) → SitesStand n k ss ps → length ss ≡ length ps
@@ -34,9 +26,9 @@ module _ (n : ℕ) where
   -- the place of site i
   here : (k : ℕ) (ss : List Site) (ps : List Place) (i : ℕ) (s : Site) → SitesStand n k ss ps → slice_get ss i ≡ Some s →
       (p : Place) × (slice_get ps i ≡ Some p) × SiteStands s (k + i) n p
-  here k [] [] i s h e = cc
+  here k [] [] i s h e = absurd (none-some s e)
   here k (a ∷ ss) (b ∷ ps) zero s h e =
-      let x : a ≡ s = cc in
+      let x : a ≡ s = ap (λ (o : Option Site). option_map_or (λ y. y) o a) e in
       let z : k ≡ k + 0 = omega arith in
       (b, refl, subst (λ (j : ℕ). SiteStands s j n b) z (subst (λ t. SiteStands t k n b) x h.0))
   here k (a ∷ ss) (b ∷ ps) (suc i) s h e =
@@ -127,11 +119,6 @@ module _ (n : ℕ) where
   pub finals_done : (ss : List Site) (places : List Place) (i : ℕ) → SitesStand n 0 ss places → length ss ≤ i →
       map final_line (take i (enumerate_from 0 places)) ≡ map final_line (enumerate_from 0 places)
   finals_done ss places i h l = ap (map final_line) (take_all i (enumerate_from 0 places) (omega (arith, l, sites_length 0 ss places h, length-enumerate_from 0 places)))
-
--- ---- a replica that changes its place
-
-pub moved : (old new : Site) (me n : ℕ) (s t : Place) (place : PlaceInMemory) → SiteStands old me n s → new.me ≡ old.me → new.n ≡ old.n → new.place ≡ place → IsIn place t → SiteStands new me n t
-moved old new me n s t place h same_me same_n same is = record { me_is = same_me ∙ h.me_is; n_is = same_n ∙ h.n_is; place = subst (λ p. IsIn p t) (sym same) is }
 
 -- ---- who is up, in the definitions
 

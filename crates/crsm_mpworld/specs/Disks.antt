@@ -7,8 +7,6 @@ use Rattle.crsm_log.specs.Words.{disk_of}
 use Rattle.crsm_log.specs.declared.log.Log.{Log as DiskLog}
 use Rattle.crsm_mpspec.specs.Log.{Log}
 use Rattle.crsm_mpspec.specs.Replica.{Replica}
-use Rattle.crsm_mpledger.specs.declared.ledger.MpLedger.{MpLedger}
-use Rattle.crsm_mpledger.specs.MpLedger.{MpLedgerStands}
 use Rattle.crsm_mpledger.specs.Sound.{IsSound, AreBodies}
 use Rattle.crsm_mpcore.specs.declared.replica.MpCore.{MpCore}
 use Rattle.crsm_mpcore.specs.Core.{MpCoreStands}
@@ -23,22 +21,12 @@ pub record IsDisk (disk : Memory) (log : Log) : Type 0 where
   pub whole : reading (bytes_of disk) ≡ found (bodies_of (bytes_of disk))
   pub bodies : AreBodies [] (bodies_of (bytes_of disk)) log
 
--- a replica is up with r: its core is that of r, and the log of r is on the disk
-pub record IsUpOn (core : MpCore) {g : _} (on_disk : DiskLog Memory g) (r : Replica) : Type 0 where
+-- the core is that of replica r, whose log is on the disk
+pub record IsOn (core : MpCore) {g : _} (on_disk : DiskLog Memory g) (r : Replica) : Type 0 where
   pub stands : MpCoreStands core r
   pub kept : IsDisk (disk_of on_disk) r.log
 
--- a ledger is that of a log, which is on the disk
-pub record IsLeft (ledger : MpLedger) {g : _} (on_disk : DiskLog Memory g) (log : Log) : Type 0 where
-  pub stands : MpLedgerStands ledger log
-  pub kept : IsDisk (disk_of on_disk) log
-
--- of some log
-pub record IsSomeLeft (ledger : MpLedger) {g : _} (on_disk : DiskLog Memory g) : Type 0 where
-  pub log : Log
-  pub is : IsLeft ledger on_disk log
-
--- some replica is up with it
-pub record IsSomeUp (core : MpCore) {g : _} (on_disk : DiskLog Memory g) : Type 0 where
+-- of some replica
+pub record IsSomeOn (core : MpCore) {g : _} (on_disk : DiskLog Memory g) : Type 0 where
   pub replica : Replica
-  pub is : IsUpOn core on_disk replica
+  pub is : IsOn core on_disk replica

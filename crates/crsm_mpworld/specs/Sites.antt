@@ -1,5 +1,5 @@
 -- The simulated replicas in memory.
-use Rattle.std.specs.Prelude.{◌≡◌, ◌<◌, ℕ, ◌+◌, suc, Bool, false, List, [], ◌∷◌, length, Option, None, Some, IfSome, if◌then◌else◌, slice_get, slice_set}
+use Rattle.std.specs.Prelude.{◌≡◌, ◌<◌, ℕ, ◌+◌, suc, Bool, true, false, List, [], ◌∷◌, length, Option, None, Some, if◌then◌else◌, slice_get, slice_set}
 use Rattle.std.specs.Option.{option_map_or}
 use Rattle.crsm_mpspec.specs.Log.{Log, boots}
 use Rattle.crsm_mpspec.specs.Replica.{Replica}
@@ -7,51 +7,38 @@ use Rattle.crsm_mpspec.specs.Draft.{Draft}
 use Rattle.crsm_mpspec.specs.Step.{boot}
 use Rattle.crsm_mpspec.specs.World.{Site as SiteOnPaper, is_up, body_size}
 use Rattle.crsm_mpreplica.specs.Made.{Answers, outcome_of}
-use Rattle.crsm_mpworld.specs.Disks.{IsLeft, IsUpOn}
-use Rattle.crsm_mpworld.specs.declared.place.SiteState.{SiteState}
-use Rattle.crsm_mpworld.specs.declared.place.Running.{Running}
+use Rattle.crsm_mpworld.specs.Disks.{IsOn}
+use Rattle.crsm_mpworld.specs.declared.place.Machine.{Machine}
 use Rattle.crsm_mpworld.specs.declared.place.Site.{Site}
-use Rattle.crsm_mpworld.specs.declared.place.MpStopped.{MpStopped}
 use Rattle.crsm_mpworld.specs.declared.site.MpStep.{MpStep}
 use Rattle.crsm_mpworld.specs.declared.sites.Sites.{Sites}
 use Rattle.crsm_mpworld.specs.declared.place.BootSize.{BootSize}
 
 -- ---- one replica
 
--- the replica is up with r, and its log is on its disk
-pub record IsUpAs (running : Running) (r : Replica) : Type 0 where
-  pub unspent : running.is_spent ≡ false
-  pub up : IsUpOn running.core running.log r
+-- the machine is that of replica r, whose log is on its disk
+pub record IsAs (machine : Machine) (r : Replica) : Type 0 where
+  pub unspent : machine.is_spent ≡ false
+  pub on : IsOn machine.core machine.log r
 
--- for each replica that is up there
-abbrev pub WhereUpAs : Running → (Replica → Type 0) → Type 0
-WhereUpAs running P = (r : Replica) → IsUpAs running r → P r
+-- for each replica whose machine it is
+abbrev pub WhereAs : Machine → (Replica → Type 0) → Type 0
+WhereAs machine P = (r : Replica) → IsAs machine r → P r
 
--- the replica is down, and left this log
-abbrev pub IsStopped : MpStopped → Log → Type 0
-IsStopped left log = IsLeft left.ledger left.log log
+-- the log of a replica that is down; what else its machine holds is lost at its boot
+abbrev pub IsDownWith : Machine → Log → Type 0
+IsDownWith machine log = (r : Replica) × IsAs machine r × (r.log ≡ log)
 
-abbrev pub IsIn : SiteState → SiteOnPaper → Type 0
-IsIn (SiteState.Up running) (SiteOnPaper.Up r) = IsUpAs running r
-IsIn (SiteState.Up running) (SiteOnPaper.Down log) = ⊥
-IsIn (SiteState.Down left) (SiteOnPaper.Up r) = ⊥
-IsIn (SiteState.Down left) (SiteOnPaper.Down log) = IsStopped left log
-IsIn SiteState.Spent s = ⊥
-
--- the replica is not down, and the replica is not up; it is neither where memory ran out
-abbrev pub IsNotDown : SiteState → Type 0
-IsNotDown (SiteState.Down left) = ⊥
-IsNotDown _ = Unit {0}
-
-abbrev pub IsNotUp : SiteState → Type 0
-IsNotUp (SiteState.Up running) = ⊥
-IsNotUp _ = Unit {0}
+-- the machine of a replica that is up or not
+abbrev pub IsIn : Bool → Machine → SiteOnPaper → Type 0
+IsIn up machine (SiteOnPaper.Up r) = (up ≡ true) × IsAs machine r
+IsIn up machine (SiteOnPaper.Down log) = (up ≡ false) × IsDownWith machine log
 
 -- the site of replica me of n is this one of the definitions
 pub record SiteStands (site : Site) (me n : ℕ) (s : SiteOnPaper) : Type 0 where
   pub me_is : site.me ≡ me
   pub n_is : site.n ≡ n
-  pub place : IsIn site.place s
+  pub place : IsIn site.is_up site.machine s
 
 -- for each site of the definitions that the site stands for
 abbrev pub WhereSiteStands : Site → ((me n : ℕ) → SiteOnPaper → Type 0) → Type 0
@@ -93,16 +80,6 @@ StandFor sites n places = SitesStand n 0 sites.items.items places
 -- there is a replica k
 abbrev pub IsOne : Sites → ℕ → Type 0
 IsOne sites k = k < length sites.items.items
-
--- a replica k that is up can step
-pub record CanStep (sites : Sites) (k : ℕ) : Type 0 where
-  pub there : IsOne sites k
-  pub not_down : IfSome (slice_get sites.items.items k) (λ site. IsNotDown site.place)
-
--- one that is down can boot
-pub record CanStart (sites : Sites) (k : ℕ) : Type 0 where
-  pub there : IsOne sites k
-  pub not_up : IfSome (slice_get sites.items.items k) (λ site. IsNotUp site.place)
 
 -- replica k is up
 unfoldable pub is_up_in : List SiteOnPaper → ℕ → Bool

@@ -6,7 +6,7 @@ ghost use Rattle.crsm_mpspec.specs.Moments.{step_at};
 ghost use Rattle.crsm_mpspec.specs.Step as steps;
 ghost use Rattle.crsm_mpspec.specs.World as on_paper;
 ghost use Rattle.crsm_mpworld.specs.Effects.{FitsEffects, Leaves, WhereSites, WhereUpIn, ending_of};
-ghost use Rattle.crsm_mpworld.specs.Sites.{CanStep, IsOne};
+ghost use Rattle.crsm_mpworld.specs.Sites.{IsOne};
 ghost use Rattle.crsm_mpworld.specs.declared.site.MpStep.{MpStep as StepOfMemory};
 
 use crate::ending::{MpEffects, MpEnding};
@@ -25,7 +25,7 @@ impl Sites {
         made: &mut MpStep,
     ) -> Result<MpEffects, NoMemory>
         requires fits { FitsInput input.now }
-        requires up { CanStep self.old k }
+        requires there { IsOne self.old k }
         ensures leaves { IfOk result (λ effects. WhereUpIn self.old k (λ v r.
             Leaves (on_paper.whole_step v k (steps.step r input.now from)) v effects made.new self.new)) }
         ensures fits { IfOk result (λ effects. FitsEffects effects made.new) }
@@ -45,25 +45,25 @@ impl Sites {
         made: &mut MpStep,
     ) -> Result<MpEffects, NoMemory>
         requires fits { FitsInput input.now }
-        requires up { CanStep self.old k }
+        requires there { IsOne self.old k }
         ensures leaves { IfOk result (λ effects. WhereUpIn self.old k (λ v r.
             Leaves (on_paper.cut_step sends v k (steps.step r input.now from)) v effects made.new self.new)) }
         ensures fits { IfOk result (λ effects. FitsEffects effects made.new) }
     {
         self.step(k, input, from, made)?;
-        self.crash(k)?;
+        self.crash(k);
         Ok(MpEffects::Cut { k, sends })
     }
 
     /// Takes a replica down with the content of its disk.
-    pub(crate) fn go_down(&mut self, k: u32) -> Result<MpEffects, NoMemory>
+    pub(crate) fn go_down(&mut self, k: u32) -> MpEffects
         requires { IsOne self.old k }
-        ensures leaves { IfOk result (λ effects. WhereSites self.old (λ v. (p : on_paper.Site) (step : StepOfMemory) → slice_get v.sites k ≡ Some p →
-            Leaves (on_paper.down v k) v effects step self.new)) }
-        ensures fits { IfOk result (λ effects. (step : StepOfMemory) → FitsEffects effects step) }
+        ensures leaves { WhereSites self.old (λ v. (p : on_paper.Site) (step : StepOfMemory) → slice_get v.sites k ≡ Some p →
+            Leaves (on_paper.down v k) v result step self.new) }
+        ensures fits { (step : StepOfMemory) → FitsEffects result step }
     {
-        self.crash(k)?;
-        Ok(MpEffects::Down { k })
+        self.crash(k);
+        MpEffects::Down { k }
     }
 
     /// Runs a step of replica `k` on an input, and ends it as `ending` says. A message comes from replica `from`.
@@ -88,7 +88,7 @@ impl Sites {
             MpEnding::Whole => Ok(self.step_whole(k, input, from, made)?),
             MpEnding::Kept { sends } => Ok(self.step_kept(k, sends, input, from, made)?),
             // Nothing of the step is left, so it is not run.
-            MpEnding::Lost => Ok(self.go_down(k)?),
+            MpEnding::Lost => Ok(self.go_down(k)),
         }
     }
 }

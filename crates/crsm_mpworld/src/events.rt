@@ -37,7 +37,7 @@ impl MpWorld {
         let Some(k) = self.sites.up(replica) else {
             return Ok(lines);
         };
-        let effects = self.sites.go_down(k)?;
+        let effects = self.sites.go_down(k);
         leave(&mut self.network, effects, &mut self.made, &mut lines)?;
         Ok(lines)
     }

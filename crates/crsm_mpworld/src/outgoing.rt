@@ -5,7 +5,7 @@ ghost use Rattle.std.specs.List.{AllByRecursion};
 ghost use Rattle.crsm_mpreplica.specs.Made.{to_send};
 ghost use Rattle.crsm_mpspec.specs.Sends as sends;
 ghost use Rattle.crsm_mpspec.specs.Sends.{others_below};
-ghost use Rattle.crsm_mpspec.specs.declared.message.MpMessage.{MpMessage as Message};
+ghost use Rattle.crsm_mpspec.specs.declared.message.MpMessage.{MpMessage};
 ghost use Rattle.crsm_mpworld.specs.Effects.{FitsEffects, HasSent, LeadsOn, LetsOut, LetsOutSome, WhereLeft, WhereMade, to_each};
 ghost use Rattle.crsm_mpworld.specs.Packets.{HasLast, HasSameLast, IsOpen, WhereKept, WhereNetwork};
 ghost use Rattle.crsm_mpworld.specs.Fits.{FitsSend};
@@ -93,7 +93,7 @@ fn send_each(
     lines: &mut MpLines,
 ) -> Result<(), NoMemory>
     requires { AllByRecursion FitsSend sends.old }
-    ensures { OnOk result (WhereNetwork network.old (λ packets bytes. (out : List (ℕ × Message)) → sends.old ≡ map to_send out →
+    ensures { OnOk result (WhereNetwork network.old (λ packets bytes. (out : List (ℕ × MpMessage)) → sends.old ≡ map to_send out →
         HasSent k out packets bytes lines.old network.new lines.new)) }
 {
     while let Some(multicast) = sends.pop_first() {

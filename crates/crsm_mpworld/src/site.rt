@@ -1,6 +1,6 @@
 //! The steps of one replica.
 
-ghost use Rattle.std.specs.Prelude.{◌≡◌, ◌++◌, ◌∷◌, ◌<◌, ◌^◌, [], None, false, length, IfOk, OnOk};
+ghost use Rattle.std.specs.Prelude.{◌≡◌, ◌++◌, ◌∷◌, ◌<◌, ◌≤◌, ◌^◌, [], None, false, length, IfOk, OnOk};
 ghost use Rattle.std.specs.List.{AllByRecursion};
 ghost use Rattle.crsm_disk.specs.Memory.{good_left};
 ghost use Rattle.crsm_log.specs.Format.{reading, found, bodies_of};
@@ -15,7 +15,7 @@ ghost use Rattle.crsm_mpspec.specs.World.{body_size};
 ghost use Rattle.crsm_mpworld.specs.Disks.{IsDisk, bytes_of};
 ghost use Rattle.crsm_mpworld.specs.Fits.{FitsSend};
 
-use crate::place::{MpStopped, Running};
+use crate::place::{BootSize, Machine};
 use crsm_base::{Bytes, NoMemory, never};
 use crsm_disk::MemDisk;
 use crsm_log::{Log, PutError};
@@ -44,20 +44,6 @@ impl MpStep {
     }
 }
 
-/// Memory in bytes reserved for a log body; few bodies are longer.
-const BODY_ROOM: usize = 64;
-
-/// Returns the log body of records.
-pub(crate) fn body_of(alloc: Global, records: &[MpRec]) -> Result<Bytes, NoMemory>
-    requires { AllByRecursion FitsRec records.now }
-    ensures { IfOk result (λ body. body ≡ body_bytes records.now) }
-{
-    let mut body = Bytes::new(alloc);
-    body.reserve(BODY_ROOM)?;
-    put_body(records, &mut body)?;
-    Ok(body)
-}
-
 /// Makes the bytes the log body of records, in their own memory.
 fn write_body(records: &[MpRec], body: &mut Bytes) -> Result<(), NoMemory>
     requires { AllByRecursion FitsRec records.now }
@@ -69,7 +55,7 @@ fn write_body(records: &[MpRec], body: &mut Bytes) -> Result<(), NoMemory>
 }
 
 /// Puts a body into a log on a disk whose calls do not fail.
-pub(crate) fn keep(alloc: Global, log: &mut Log<MemDisk>, body: &[u8]) -> Result<(), NoMemory>
+fn keep(alloc: Global, log: &mut Log<MemDisk>, body: &[u8]) -> Result<(), NoMemory>
     requires some { 0 < length body.now }
     requires unfailed { has_failed log.old ≡ false }
     requires well { good_left (disk_of log.old) ≡ None }
@@ -119,12 +105,12 @@ fn executed_by(core: &MpCore) -> u64
     core.ledger().executed_len()
 }
 
-impl Running {
-    ghost use Rattle.crsm_mpworld.specs.Sites.{IsStopped, IsUpAs, Makes, WhereUpAs};
+impl Machine {
+    ghost use Rattle.crsm_mpworld.specs.Sites.{Boots, IsAs, Makes, WhereAs};
 
     /// Returns the number of executed slots.
     pub(crate) fn executed_len(&self) -> u64
-        ensures { WhereUpAs self.now (λ r. result ≡ length (executed r.log)) }
+        ensures { WhereAs self.now (λ r. result ≡ length (executed r.log)) }
     {
         executed_by(&self.core)
     }
@@ -138,8 +124,8 @@ impl Running {
     ) -> Result<(), NoMemory>
         requires { FitsInput input.now }
         ensures fits { OnOk result (AllByRecursion FitsSend made.new.batch.sends) }
-        ensures steps { OnOk result (WhereUpAs self.old (λ r.
-            Makes made.new (steps.step r input.now from) × IsUpAs self.new (steps.step r input.now from).replica)) }
+        ensures steps { OnOk result (WhereAs self.old (λ r.
+            Makes made.new (steps.step r input.now from) × IsAs self.new (steps.step r input.now from).replica)) }
     {
         if self.is_spent {
             return Err(NoMemory);
@@ -158,20 +144,24 @@ impl Running {
         Ok(())
     }
 
-    /// Takes the replica down.
-    pub(crate) fn stop(self) -> Result<MpStopped, NoMemory>
-        ensures { IfOk result (λ left. WhereUpAs self (λ r. IsStopped left r.log)) }
+    /// Boots replica `me` of `n` on its log, which is not read: what the core holds beside it is lost.
+    pub(crate) fn boot(&mut self, me: u32, n: u32) -> Result<BootSize, NoMemory>
+        requires mine { me < n }
+        requires most { n ≤ 15 }
+        ensures { IfOk result (λ made. WhereAs self.old (λ r. Boots made me n r.log × IsAs self.new (steps.boot me n r.log).replica)) }
     {
-        let Running {
-            core,
-            log,
-            is_spent,
-            ..
-        } = self;
-        if is_spent {
+        if self.is_spent {
             return Err(NoMemory);
         }
-        let ledger = core.into_ledger();
-        Ok(MpStopped { log, ledger })
+        // A caller that sees an error below must not continue from half a boot.
+        self.is_spent = true;
+        write_body(&[MpRec::Boot], &mut self.body)?;
+        keep(self.alloc, &mut self.log, self.body.as_slice())?;
+        self.core.boot(me, n);
+        self.is_spent = false;
+        Ok(BootSize {
+            count: self.core.ledger().boots(),
+            size: self.body.as_slice().len() as u64,
+        })
     }
 }

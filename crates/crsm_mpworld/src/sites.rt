@@ -1,6 +1,6 @@
 //! The simulated replicas.
 
-ghost use Rattle.std.specs.Prelude.{◌≡◌, ◌≤◌, [], Some, false, length, map, replicate, slice_get, slice_set, IfOk, IfSome, IsTrue, OnOk};
+ghost use Rattle.std.specs.Prelude.{◌≡◌, ◌≤◌, [], Some, length, map, replicate, slice_get, slice_set, IfOk, IfSome, IsTrue, OnOk};
 ghost use Rattle.std.specs.List.{AllByRecursion, enumerate_from};
 ghost use Rattle.crsm_mpreplica.specs.Fitting.{FitsInput};
 ghost use Rattle.crsm_mpspec.specs.Log.{Log};
@@ -23,7 +23,7 @@ pub(crate) struct Sites {
 }
 
 impl Sites {
-    ghost use Rattle.crsm_mpworld.specs.Sites.{BootsTo, CanStart, CanStep, IsOne, StandFor, StepsTo, WhereDown, WherePlace, WhereSitesStand, WhereUp, is_up_in, up_in};
+    ghost use Rattle.crsm_mpworld.specs.Sites.{BootsTo, IsOne, StandFor, StepsTo, WhereDown, WherePlace, WhereSitesStand, WhereUp, is_up_in, up_in};
 
     /// Returns `n` replicas that are down and have empty disks.
     pub(crate) fn new(alloc: Global, n: u32) -> Result<Sites, NoMemory>
@@ -47,8 +47,7 @@ impl Sites {
     /// Returns whether a replica is up.
     pub(crate) fn is_up(&self, k: u64) -> bool
         ensures up { WhereSitesStand self.now (λ n places. result ≡ is_up_in places k) }
-        ensures can_step { IsTrue result → CanStep self.now k }
-        ensures can_start { result ≡ false → IsOne self.now k → CanStart self.now k }
+        ensures there { IsTrue result → IsOne self.now k }
     {
         match self.items.get(k as usize) {
             Some(site) => site.is_up(),
@@ -59,7 +58,7 @@ impl Sites {
     /// Returns `k` as the number of a replica that is up, or `None` if it is not up.
     pub(crate) fn up(&self, k: u64) -> Option<u32>
         ensures up { WhereSitesStand self.now (λ n places. result ≡ up_in places k) }
-        ensures can { IfSome result (CanStep self.now) }
+        ensures there { IfSome result (IsOne self.now) }
     {
         if !self.is_up(k) {
             return None;
@@ -70,7 +69,7 @@ impl Sites {
     /// Returns `k` as the number of a replica that is down, or `None` if it is up or there is no such replica.
     pub(crate) fn down(&self, k: u64) -> Option<u32>
         ensures down { WhereSitesStand self.now (λ n places. (log : Log) → slice_get places k ≡ Some (on_paper.Site.Down log) → result ≡ Some k) }
-        ensures can { IfSome result (CanStart self.now) }
+        ensures there { IfSome result (IsOne self.now) }
     {
         if self.items.len() as u64 <= k {
             return None;
@@ -95,7 +94,7 @@ impl Sites {
 
     /// Boots a replica that is down on its disk.
     pub(crate) fn start(&mut self, k: u32) -> Result<BootSize, NoMemory>
-        requires { CanStart self.old k }
+        requires { IsOne self.old k }
         ensures { IfOk result (λ made. WhereDown self.old k (λ n places log. BootsTo made log self.new n places k)) }
     {
         let boot = self.items[k as usize].start()?;
@@ -103,12 +102,11 @@ impl Sites {
     }
 
     /// Takes a replica down. A replica that is down stays down.
-    pub(crate) fn crash(&mut self, k: u32) -> Result<(), NoMemory>
+    pub(crate) fn crash(&mut self, k: u32)
         requires { IsOne self.old k }
-        ensures { OnOk result (WherePlace self.old k (λ n places p. StandFor self.new n (slice_set places k (on_paper.Site.Down (on_paper.log_of p))))) }
+        ensures { WherePlace self.old k (λ n places p. StandFor self.new n (slice_set places k (on_paper.Site.Down (on_paper.log_of p)))) }
     {
-        self.items[k as usize].crash()?;
-        Ok(())
+        self.items[k as usize].crash();
     }
 
     /// Runs one step of a replica that is up. Its output replaces that in `made`.
@@ -120,7 +118,7 @@ impl Sites {
         made: &mut MpStep,
     ) -> Result<(), NoMemory>
         requires fits { FitsInput input.now }
-        requires up { CanStep self.old k }
+        requires there { IsOne self.old k }
         ensures one { IsOne self.new k }
         ensures fits { OnOk result (AllByRecursion FitsSend made.new.batch.sends) }
         ensures steps { OnOk result (WhereUp self.old k (λ n places r. StepsTo made.new (steps.step r input.now from) self.new n places k)) }

@@ -6,7 +6,7 @@ use Rattle.crsm_log.specs.Format.{found, bad, reading}
 use Rattle.crsm_log.specs.Words.{disk_of}
 use Rattle.crsm_mpledger.specs.Sound.{AreBodies}
 use Rattle.crsm_mpworld.specs.Disks.{bytes_of}
-use Rattle.crsm_mpworld.proofs.Boots.{no_boots}
+use Rattle.crsm_mpworld.proofs.Boots.{core_fresh, log_of_fresh, no_boots}
 use Rattle.crsm_mpworld.proofs.Disks.{empty_bodies, on_disk, plan_of, well_after}
 use Rattle.crsm_mpworld.proofs.stops.never_booted.Goals as goal
 
@@ -24,19 +24,21 @@ returns c =
     let mounts = c.in-Ok.ensures.ok in
     let bodies = c.in-Ok.mounted.1 in
     let are = none_are bodies (empty_bodies c.in_ok-disk.disk bodies c.in_ok-disk.ensures (mounts.read refl)) in
-    record { stands = c.in_ok-ledger.ensures [] are tt; kept = on_disk (disk_of c.in-Ok.mounted.0) bodies [] (mounts.kept refl) are tt }
+    let kept = on_disk (disk_of c.in-Ok.mounted.0) bodies [] (mounts.kept refl) are tt in
+    (_, record { unspent = refl; on = core_fresh c.new-2.result c.in-Ok.mounted.0 c.args.me c.args.n [] (c.new-2.ensures [] (c.in_ok-ledger.ensures [] are tt)) kept }, log_of_fresh c.args.me c.args.n [])
 
 pub invariant_of-result-clause-well : goal.invariant_of-result-clause-well
-invariant_of-result-clause-well c =
+invariant_of-result-clause-well c unspent =
     let p = plan_of c.in_ok-disk.disk in
     well_after _ p (disk_of c.in-Ok.mounted.0) (subst (λ (d : Memory). good_left d ≡ None) (sym c.in_ok-disk.ensures) refl) (c.in-Ok.ensures.ok.good refl p refl)
 
 pub invariant_of-result-clause-stands : goal.invariant_of-result-clause-stands
-invariant_of-result-clause-stands c =
+invariant_of-result-clause-stands c unspent =
     let mounts = c.in-Ok.ensures.ok in
     let bodies = c.in-Ok.mounted.1 in
     let are = none_are bodies (empty_bodies c.in_ok-disk.disk bodies c.in_ok-disk.ensures (mounts.read refl)) in
-    merely (record { log = []; is = record { stands = c.in_ok-ledger.ensures [] are tt; kept = on_disk (disk_of c.in-Ok.mounted.0) bodies [] (mounts.kept refl) are tt } })
+    let kept = on_disk (disk_of c.in-Ok.mounted.0) bodies [] (mounts.kept refl) are tt in
+    merely (record { replica = _; is = core_fresh c.new-2.result c.in-Ok.mounted.0 c.args.me c.args.n [] (c.new-2.ensures [] (c.in_ok-ledger.ensures [] are tt)) kept })
 
 -- ---- what it does not answer
 

@@ -1,12 +1,12 @@
-use Rattle.std.proofs.Common.{sym, subst}
-use Rattle.crsm_mpworld.specs.Sites.{IsNotDown, IsNotUp}
+use Rattle.std.proofs.Common.{◌≡◌}
+use Rattle.crsm_mpspec.specs.World.{Site as SiteOnPaper, is_up}
+use Rattle.crsm_mpworld.specs.Sites.{IsIn}
 use Rattle.crsm_mpworld.proofs.place.Site.is_up.Goals as goal
 
-pub returns-in-Up-clause-not_down : goal.returns-in-Up-clause-not_down
-returns-in-Up-clause-not_down c up = subst (λ p. IsNotDown p) (sym c.in-Up.is) tt
-
-pub returns-in-Down-clause-not_up : goal.returns-in-Down-clause-not_up
-returns-in-Down-clause-not_up c down = subst (λ p. IsNotUp p) (sym c.in-Down.is) tt
-
-pub returns-in-Spent-clause-not_up : goal.returns-in-Spent-clause-not_up
-returns-in-Spent-clause-not_up c down = subst (λ p. IsNotUp p) (sym c.in-Spent.is) tt
+pub returns : goal.returns
+unfolding is_up
+returns c me n s h = go s h.place
+  where
+    go : (s : SiteOnPaper) → IsIn c.args.self.now.is_up c.args.self.now.machine s → c.args.self.now.is_up ≡ is_up s
+    go (SiteOnPaper.Up r) place = place.0
+    go (SiteOnPaper.Down log) place = place.0

@@ -23,9 +23,9 @@ returns-in_ok-step_kept-in-Kept-clause-leaves c v h =
     let e = ap (slice_get v.sites) u.number ∙ u.up in
     rw c.in-Kept.is (leaves_here (cut_step c.in-Kept.sends) v c.args.k c.in-Some.k c.args.input.now c.args.from _ _ _ u (c.in_ok-step_kept-in-Kept.ensures.leaves v u.replica h e))
 
-pub returns-in_ok-go_down-in-Lost-clause-leaves : goal.returns-in_ok-go_down-in-Lost-clause-leaves
+pub returns-in-Lost-clause-leaves : goal.returns-in-Lost-clause-leaves
 unfolding ending_of lost_step
-returns-in_ok-go_down-in-Lost-clause-leaves c v h =
+returns-in-Lost-clause-leaves c v h =
     let u = up_found v.sites c.args.k c.in-Some.k (sym c.in-Some.is ∙ c.up.ensures.up v.n v.sites h) in
     let e = ap (slice_get v.sites) u.number ∙ u.up in
-    rw c.in-Lost.is (leaves_here lost_step v c.args.k c.in-Some.k c.args.input.now c.args.from _ _ _ u (c.in_ok-go_down-in-Lost.ensures.leaves v h (Site.Up u.replica) _ e))
+    rw c.in-Lost.is (leaves_here lost_step v c.args.k c.in-Some.k c.args.input.now c.args.from _ _ _ u (c.go_down.ensures.leaves v h (Site.Up u.replica) _ e))

@@ -5,4 +5,4 @@ pub returns : goal.returns
 returns c n places p h e =
     let ss = c.args.self.now.items.items in
     let s = site_at n ss places c.args.k c.index_mut.result.now p h c.requires c.index_mut.ensures.value e in
-    site_set n ss places c.args.k _ _ h (c.in_ok-crash.ensures c.args.k n p s)
+    site_set n ss places c.args.k _ _ h (c.crash.ensures c.args.k n p s)

@@ -11,7 +11,7 @@ loop-site-preserved c n places h =
     let items = c.deref-site-items.ensures.value in
     let l : i < length ss = let e = ap length items in let t = c.loop-site-test.true in omega arith in
     let is = subst (λ (xs : List Site). c.site-item.result ≡ get_or xs i c.site-item.result) items c.site-item.is in
-    c.in_ok-push.ensures.items ∙ ups_next n ss places i c.site-item.result c.loop-site.ups.items c.is_up.result h l is (λ p s. c.is_up.ensures.up _ n p s) (c.loop-site.invariant n places h)
+    c.in_ok-push.ensures.items ∙ ups_next n ss places i c.site-item.result c.loop-site.ups.items c.is_up.result h l is (λ p s. c.is_up.ensures _ n p s) (c.loop-site.invariant n places h)
 
 pub returns : goal.returns
 returns c n places h =
