@@ -1,15 +1,17 @@
 """Writes a schedule of requests: all four operations over some thousand clients and keys.
 
-    python3 bench/schedule.py COUNT [REPLICAS] [settles|deliveries] > FILE
+    python3 bench/schedule.py COUNT [REPLICAS] [settles|deliveries|boots] > FILE
 
 With more than one replica they come to each in turn, and after each request everything that is on its way is delivered,
 and what that makes the replicas send, too. With a third word it is a schedule for `replay-mp`: replica 0 is elected, all
-requests come to it, and behind each its messages are delivered, by three settles or one by one.
+requests come to it, and behind each its messages are delivered, by three settles or one by one. Of boots it is 200 such
+requests, and then COUNT stops, each with a boot behind it, of each replica in turn.
 """
 
 import sys
 
 CLIENTS = 3_000
+REQUESTS_BEFORE_BOOTS = 200
 KEYS = 2_000
 MODULUS = 2**64
 
@@ -60,6 +62,14 @@ def requests(count):
         yield f"{client} {numbers[client]} {operation(draws)}"
 
 
+def boot_lines(count, replicas):
+    """The lines of a schedule for the store with a leader: a few requests, and then so many stops and boots."""
+    yield from leader_lines(REQUESTS_BEFORE_BOOTS, replicas, "settles")
+    for turn in range(count):
+        yield f"crash {turn % replicas}"
+        yield f"start {turn % replicas}"
+
+
 def leader_lines(count, replicas, deliveries):
     """The lines of a schedule for the store with a leader: what a request sends is delivered behind it."""
     yield f"replicas {replicas}"
@@ -94,7 +104,12 @@ def lines(count, replicas):
 
 def schedule(count, replicas=1, deliveries=None):
     """The whole schedule of so many requests as bytes; for a store with a leader where its deliveries are said."""
-    made = leader_lines(count, replicas, deliveries) if deliveries else lines(count, replicas)
+    if deliveries == "boots":
+        made = boot_lines(count, replicas)
+    elif deliveries:
+        made = leader_lines(count, replicas, deliveries)
+    else:
+        made = lines(count, replicas)
     return "".join(f"{line}\n" for line in made).encode()
 
 
