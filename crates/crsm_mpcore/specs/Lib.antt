@@ -4,3 +4,4 @@ pub mod Findings
 pub mod Parts
 pub mod Requests
 pub mod Ticks
+pub mod Replies

@@ -1,13 +1,10 @@
 //! Replies to waiting clients.
 
-ghost use Rattle.std.specs.Prelude.{◌≡◌, Some, None, slice_get, take, IfOk};
-ghost use Rattle.crsm_spec.specs.Choice.{when◌then◌otherwise◌};
-ghost use Rattle.crsm_mpspec.specs.Draft.{Draft};
+ghost use Rattle.std.specs.Prelude.{◌≡◌, IfOk};
 ghost use Rattle.crsm_mpspec.specs.Log.{executed};
 ghost use Rattle.crsm_mpspec.specs.Step as steps;
-ghost use Rattle.crsm_mpspec.specs.Types.{Value};
-ghost use Rattle.crsm_mpspec.specs.Values as values;
-ghost use Rattle.crsm_mpreplica.specs.State.{Makes, MpReplicaStands, waiting_of};
+ghost use Rattle.crsm_mpreplica.specs.State.{Makes, waiting_of};
+ghost use Rattle.crsm_mpcore.specs.Replies.{WhereExecuted, answer_at};
 
 use crate::same::is_command;
 use crsm_base::{Answer, Command, NoMemory};
@@ -31,8 +28,8 @@ pub(crate) fn replies(state: &mut MpReplica) -> Result<(), NoMemory>
 /// Returns the reply to a command whose slot is executed: its answer, or that another value was chosen there.
 #[tactic(auto, unfolding(crsm_mpspec::specs::Step::reply_line))]
 fn reply_line(state: &MpReplica, slot: u64, command: &Command) -> Result<MpLine, NoMemory>
-    ensures { IfOk result (λ line. (x : Draft) (v : Value) → MpReplicaStands state.now x → slice_get (executed x.replica.log) slot ≡ Some v →
-        line ≡ steps.reply_line x.replica.me (executed x.replica.log) (waiting_of (slot, command.now)) v) }
+    ensures { IfOk result (λ line. WhereExecuted state.now slot (λ x v.
+        line ≡ steps.reply_line x.replica.me (executed x.replica.log) (waiting_of (slot, command.now)) v)) }
 {
     let (replica, client, number) = (state.me(), command.client, command.number);
     match answer_to(state, slot, command)? {
@@ -54,8 +51,7 @@ fn reply_line(state: &MpReplica, slot: u64, command: &Command) -> Result<MpLine,
 
 /// Returns the answer to a command, or `None` if another value was executed at the slot.
 fn answer_to(state: &MpReplica, slot: u64, command: &Command) -> Result<Option<Answer>, NoMemory>
-    ensures { IfOk result (λ answer. (x : Draft) (v : Value) → MpReplicaStands state.now x → slice_get (executed x.replica.log) slot ≡ Some v →
-        answer ≡ (when values.is_command command.now v then Some (values.answer_after (take slot (executed x.replica.log)) command.now) otherwise None)) }
+    ensures { IfOk result (λ answer. WhereExecuted state.now slot (λ x v. answer ≡ answer_at slot command.now v (executed x.replica.log))) }
 {
     let Some(value) = state.ledger().executed(slot) else {
         return Ok(None);

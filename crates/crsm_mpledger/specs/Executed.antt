@@ -1,7 +1,11 @@
 -- The executed slots in memory.
-use Rattle.std.specs.Prelude.{◌≡◌, ◌≤◌, List, [], ◌∷◌, ◌++◌, None, Some, drop, length}
+use Rattle.std.specs.Prelude.{◌≡◌, ◌≤◌, ℕ, List, [], ◌∷◌, ◌++◌, None, Some, drop, length}
+use Rattle.crsm_mpspec.specs.Log.{Log, by_slot, choices, executed, run_from}
 use Rattle.crsm_mpspec.specs.Types.{Value}
 use Rattle.crsm_mpspec.specs.Values.{answer_after, rows_after}
+use Rattle.crsm_mpledger.specs.declared.by_slot.BySlot.{BySlot}
+use Rattle.crsm_mpledger.specs.BySlot.{SlotsStand}
+use Rattle.crsm_mpledger.specs.Sound.{IsSound}
 use Rattle.crsm_mpledger.specs.declared.executions.Execution.{Execution}
 use Rattle.crsm_mpledger.specs.declared.executions.Executions.{Executions}
 
@@ -29,3 +33,9 @@ pub record ExecutionsStand (executions : Executions) (values : List Value) : Typ
 -- for the values that were executed
 abbrev pub WhereExecuted : Executions → (List Value → Type 0) → Type 0
 WhereExecuted executions P = (values : List Value) → ExecutionsStand executions values → P values
+
+-- where the slots of a log before one of them were executed, now all are that the log allows
+abbrev pub ExecutesKnown : BySlot Value → (old new : Executions) → Type 0
+ExecutesKnown chosen old new =
+    (log : Log) → IsSound log → SlotsStand chosen (by_slot (choices log)) → (done : ℕ) → length (run_from done 0 log) ≡ done →
+    ExecutionsStand old (run_from done 0 log) → ExecutionsStand new (executed log)

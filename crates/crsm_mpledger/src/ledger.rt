@@ -4,7 +4,7 @@ ghost use Rattle.std.specs.Prelude.{◌≡◌, ◌∷◌, [], ℕ, List, length,
 ghost use Rattle.crsm_mpspec.specs.declared.rec.MpRec.{MpRec as Record};
 ghost use Rattle.crsm_mpspec.specs.Log.{Log, by_slot, choices, executed, run_from};
 ghost use Rattle.crsm_mpledger.specs.BySlot.{SlotsStand};
-ghost use Rattle.crsm_mpledger.specs.Executed.{ExecutionsStand};
+ghost use Rattle.crsm_mpledger.specs.Executed.{ExecutesKnown, ExecutionsStand};
 ghost use Rattle.crsm_mpledger.specs.MpLedger.{CanFollow, MayBoot, MpLedgerStands, WhereLedger, first_kept};
 ghost use Rattle.crsm_mpledger.specs.Sound.{IsSound, MayFollow};
 
@@ -16,8 +16,7 @@ use std::alloc::Global;
 
 /// Executes the slots after the executed ones, up to the first whose value is not known.
 fn execute_known(chosen: &BySlot<SharedValue>, executions: &mut Executions) -> Result<(), NoMemory>
-    ensures stands { OnOk result ((log : Log) → IsSound log → SlotsStand chosen.now (by_slot (choices log)) → (done : ℕ) → length (run_from done 0 log) ≡ done →
-        ExecutionsStand executions.old (run_from done 0 log) → ExecutionsStand executions.new (executed log)) }
+    ensures stands { OnOk result (ExecutesKnown chosen.now executions.old executions.new) }
     ensures first { OnOk result (executions.new.first ≡ executions.old.first) }
 {
     for slot in executions.len()..u64::MAX {

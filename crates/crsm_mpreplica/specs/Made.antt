@@ -1,12 +1,16 @@
 -- The output of a step while it runs, in memory.
-use Rattle.std.specs.Prelude.{◌≡◌, ℕ, List, [], map}
+use Rattle.std.specs.Prelude.{◌≡◌, ◌≤◌, ◌++◌, ℕ, List, [], Some, drop, length, map, take}
 use Rattle.std.specs.List.{AllByRecursion}
 use Rattle.crsm_mpspec.specs.declared.batch.MpBatch.{MpBatch}
 use Rattle.crsm_mpspec.specs.declared.line.MpLine.{MpLine}
 use Rattle.crsm_mpspec.specs.declared.message.MpMessage.{MpMessage}
 use Rattle.crsm_mpspec.specs.declared.rec.MpRec.{MpRec}
 use Rattle.crsm_mpspec.specs.declared.send.MpSend.{MpSend}
-use Rattle.crsm_mpspec.specs.Draft.{Draft}
+use Rattle.crsm_mpspec.specs.Draft.{Draft, exec_lines, keep_as}
+use Rattle.crsm_mpspec.specs.Log.{Log, executed}
+use Rattle.crsm_mpspec.specs.Types.{Ballot, Command}
+use Rattle.crsm_mpledger.specs.declared.ledger.MpLedger.{MpLedger}
+use Rattle.crsm_mpledger.specs.MpLedger.{MpLedgerStands, first_kept}
 use Rattle.crsm_mpspec.specs.Records.{FitsRec}
 use Rattle.crsm_mpreplica.specs.declared.made.StepOutput.{StepOutput}
 use Rattle.crsm_mpreplica.specs.Fitting.{FitsMessage}
@@ -48,3 +52,13 @@ pub record Answers (batch : MpBatch) (o : Outcome) : Type 0 where
   pub replies : batch.replies ≡ o.replies
   pub records_fit : AllByRecursion FitsRec o.batch
   pub sends_fit : AllByRecursion FitsSent o.sends
+
+-- the lines of the slots that are executed from this one on follow those made before
+abbrev pub TellsExecuted : (me first : ℕ) → MpLedger → (old new : StepOutput) → Type 0
+TellsExecuted me first ledger old new =
+    (log : Log) (o : Outcome) → MpLedgerStands ledger log → first_kept ledger ≤ first → first ≤ length (executed log) → MadeStands old o →
+    MadeStands new (record o { lines = o.lines ++ exec_lines me (take first (executed log)) (drop first (executed log)) })
+
+-- the draft that accepts a client's command
+abbrev pub submitted : ℕ → Ballot → Command → Draft → Draft
+submitted slot b d x = keep_as (MpLine.Submit x.replica.me slot b.round b.by d.client d.number) (MpRec.Accept slot b (Some d)) x

@@ -7,6 +7,7 @@ use Rattle.crsm_spec.specs.Lists.{has}
 use Rattle.crsm_mpspec.specs.Types.{Ballot}
 use Rattle.crsm_mpspec.specs.Log.{Log, is_chosen}
 use Rattle.crsm_mpspec.specs.Deciding.{counts}
+use Rattle.crsm_mpspec.specs.Draft.{Draft, noting}
 use Rattle.crsm_mpspec.specs.Replica.{Replica, Note as NoteOnPaper, Report as ReportOnPaper, has_reported, with_report, voters_at, slots_of}
 use Rattle.crsm_mpreplica.specs.declared.note.Asking.{Asking}
 use Rattle.crsm_mpreplica.specs.declared.note.Leading.{Leading}
@@ -72,6 +73,10 @@ awaits_report b k _ = false
 unfoldable pub note_report : ReportOnPaper → NoteOnPaper → NoteOnPaper
 note_report r (NoteOnPaper.Asking a start reports) = NoteOnPaper.Asking a start (with_report r reports)
 note_report r note = note
+
+-- the draft with one report more
+abbrev pub reported : ReportOnPaper → Draft → Draft
+reported r x = noting (note_report r x.replica.note) x
 
 -- the replica, in this stage, leads in ballot b, and the vote of replica k at the slot counts
 unfoldable pub awaits_vote : Ballot → ℕ → ℕ → Replica → NoteOnPaper → Bool

@@ -4,8 +4,8 @@ use Rattle.std.specs.List.{AllByRecursion}
 use Rattle.crsm_base.specs.declared.memory.NoMemory.{NoMemory}
 use Rattle.crsm_spec.specs.Choice.{when◌then◌otherwise◌}
 use Rattle.crsm_mpspec.specs.Log.{executed}
-use Rattle.crsm_mpspec.specs.Types.{Command}
-use Rattle.crsm_mpspec.specs.Replica.{Replica, Waiting}
+use Rattle.crsm_mpspec.specs.Types.{Ballot, Command}
+use Rattle.crsm_mpspec.specs.Replica.{Note, Replica, Report, Waiting}
 use Rattle.crsm_mpspec.specs.Draft.{Draft, begun}
 use Rattle.crsm_mpledger.specs.MpLedger.{MayBoot, MpLedgerStands}
 use Rattle.crsm_mpreplica.specs.declared.state.MpReplica.{MpReplica}
@@ -40,6 +40,12 @@ WhereReplica state P = (r : Replica) → IsReplica state r → P r
 -- one boot more can be counted
 abbrev pub CanBoot : MpReplica → Type 0
 CanBoot state = MayBoot state.ledger
+
+-- for each draft that the state stands for, in which the replica leads
+abbrev pub WhereLeading : MpReplica → (Draft → Ballot → (start next : ℕ) → List Report → (votes : List (ℕ × ℕ)) → Type 0) → Type 0
+WhereLeading state P =
+    (x : Draft) (b : Ballot) (start next : ℕ) (reports : List Report) (votes : List (ℕ × ℕ)) → MpReplicaStands state x →
+    x.replica.note ≡ Note.Leading b start next reports votes → P x b start next reports votes
 
 -- Whatever the old state stood for, the new one stands for the effect of this on it; or memory ran out.
 abbrev pub Makes : (Draft → Draft) → MpReplica → Result (Unit {0}) NoMemory → MpReplica → Type 0

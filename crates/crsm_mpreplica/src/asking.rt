@@ -7,7 +7,7 @@ ghost use Rattle.crsm_mpspec.specs.Electing as electing;
 ghost use Rattle.crsm_mpspec.specs.Replica.{Note as NoteOnPaper};
 ghost use Rattle.crsm_mpspec.specs.Types.{Ballot as BallotOnPaper};
 ghost use Rattle.crsm_mpreplica.specs.Fitting.{FitsReport};
-ghost use Rattle.crsm_mpreplica.specs.Notes.{awaits_report, note_report, report_of};
+ghost use Rattle.crsm_mpreplica.specs.Notes.{awaits_report, report_of, reported};
 ghost use Rattle.crsm_mpreplica.specs.State.{MakesIf, MakesWhere, WhereStands};
 
 use crate::note::{Asking, MpReport, Note};
@@ -46,7 +46,7 @@ impl MpReplica {
         chosen: &MpChoices,
     ) -> Result<bool, NoMemory>
         ensures { FitsReport (record { from = from; accepted = accepted.now; chosen = chosen.now }) → MakesIf (λ x. awaits_report ballot from x.replica.note)
-            (λ x. drafts.noting (note_report (record { from = from; accepted = accepted.now; chosen = chosen.now }) x.replica.note) x) self.old result self.new }
+            (reported (record { from = from; accepted = accepted.now; chosen = chosen.now })) self.old result self.new }
     {
         if !self.awaits_report(from, ballot) {
             return Ok(false);
@@ -72,7 +72,7 @@ impl MpReplica {
     /// Adds the report of a replica that has not reported.
     fn add_report(&mut self, from: u32, report: MpReport) -> Result<(), NoMemory>
         ensures { (b : BallotOnPaper) → FitsReport (report_of (from, report)) →
-            MakesWhere (λ x. awaits_report b from x.replica.note ≡ true) (λ x. drafts.noting (note_report (report_of (from, report)) x.replica.note) x) self.old result self.new }
+            MakesWhere (λ x. awaits_report b from x.replica.note ≡ true) (reported (report_of (from, report))) self.old result self.new }
     {
         if let Note::Asking(asking) = &mut self.note {
             asking.reports.insert(from, report)?;

@@ -10,7 +10,7 @@ ghost use Rattle.crsm_mpspec.specs.Types.{Ballot};
 ghost use Rattle.crsm_mpspec.specs.Electing.{on_no};
 ghost use Rattle.crsm_mpspec.specs.Replica.{Note as NoteOnPaper, Report, votes_of, without_lead};
 ghost use Rattle.crsm_mpreplica.specs.Notes.{awaits_vote};
-ghost use Rattle.crsm_mpreplica.specs.State.{Makes, MakesIf, MakesWhere, MpReplicaStands, WhereStands};
+ghost use Rattle.crsm_mpreplica.specs.State.{Makes, MakesIf, MakesWhere, MpReplicaStands, WhereLeading, WhereStands};
 
 use crate::note::{self, Leading, Note};
 use crate::slots::push_slot;
@@ -21,7 +21,8 @@ use std::collections::BTreeMap;
 impl MpReplica {
     /// Makes the replica the leader in a ballot; `next` is the slot of the next command.
     pub fn lead(&mut self, ballot: Ballot, next: u64)
-        ensures { (x : Draft) (start : ℕ) (reports : List Report) → MpReplicaStands self.old x → FitsBallot ballot → MpReplicaStands self.new (drafts.noting (NoteOnPaper.Leading ballot start next reports []) x) }
+        ensures { WhereStands self.old (λ x. (start : ℕ) (reports : List Report) → FitsBallot ballot →
+            MpReplicaStands self.new (drafts.noting (NoteOnPaper.Leading ballot start next reports []) x)) }
     {
         self.note = Note::Leading(Leading {
             ballot,
@@ -46,8 +47,8 @@ impl MpReplica {
 
     /// Advances the slot of the leader's next command by 1.
     pub fn pass_slot(&mut self)
-        ensures { (x : Draft) (b : Ballot) (start next : ℕ) (reports : List Report) (votes : List (ℕ × ℕ)) → MpReplicaStands self.old x → x.replica.note ≡ NoteOnPaper.Leading b start next reports votes →
-            next < u64_max → MpReplicaStands self.new (drafts.noting (NoteOnPaper.Leading b start (next + 1) reports votes) x) }
+        ensures { WhereLeading self.old (λ x b start next reports votes. next < u64_max →
+            MpReplicaStands self.new (drafts.noting (NoteOnPaper.Leading b start (next + 1) reports votes) x)) }
     {
         if let Note::Leading(leading) = &mut self.note {
             leading.next = leading.next.saturating_add(1);

@@ -15,7 +15,7 @@ ghost use Rattle.crsm_mpledger.specs.MpLedger.{CanFollow, MpLedgerStands, WhereL
 ghost use Rattle.crsm_mpledger.specs.Executed.{execution_after};
 ghost use Rattle.crsm_mpledger.specs.Sound.{MayFollow};
 ghost use Rattle.crsm_mpreplica.specs.Fitting.{FitsAccept, FitsChoice};
-ghost use Rattle.crsm_mpreplica.specs.Made.{MadeStands, Outcome};
+ghost use Rattle.crsm_mpreplica.specs.Made.{MadeStands, Outcome, TellsExecuted, submitted};
 ghost use Rattle.crsm_mpreplica.specs.State.{MakesWhere};
 
 use crate::made::StepOutput;
@@ -106,7 +106,7 @@ impl MpReplica {
         ballot: Ballot,
         command: &SharedCommand,
     ) -> Result<(), NoMemory>
-        ensures { MakesWhere (λ x. FitsAccept slot ballot (Some command.now)) (λ x. drafts.keep_as (Line.Submit x.replica.me slot ballot.round ballot.by command.now.client command.now.number) (Record.Accept slot ballot (Some command.now)) x) self.old result self.new }
+        ensures { MakesWhere (λ x. FitsAccept slot ballot (Some command.now)) (submitted slot ballot command.now) self.old result self.new }
     {
         let own = command.get();
         let line = MpLine::Submit {
@@ -157,8 +157,7 @@ fn tell_executed(
     made: &mut StepOutput,
     first: u64,
 ) -> Result<(), NoMemory>
-    ensures { OnOk result ((log : Log) (o : Outcome) → MpLedgerStands ledger.now log → first_kept ledger.now ≤ first → first ≤ length (executed log) → MadeStands made.old o →
-        MadeStands made.new (record o { lines = o.lines ++ exec_lines me (take first (executed log)) (drop first (executed log)) })) }
+    ensures { OnOk result (TellsExecuted me first ledger.now made.old made.new) }
 {
     executions_are_by_slot();
     for slot in first..ledger.executed_len() {

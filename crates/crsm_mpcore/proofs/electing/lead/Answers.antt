@@ -15,4 +15,4 @@ returns c x s reports e =
     let next : c.next.result ≡ next_slot start reports = c.next.ensures ∙ e.findings.next in
     c.in_ok-propose_all.ensures (noting (Note.Leading b start (next_slot start reports) reports []) y)
     (subst (λ (n : ℕ). MpReplicaStands c.lead.new.self (noting (Note.Leading b start n reports []) y)) next
-    (c.lead.ensures y start reports (c.in_ok-choose_all.ensures x s reports e) e.ballot_fits)) reports e
+    (c.lead.ensures y (c.in_ok-choose_all.ensures x s reports e) start reports e.ballot_fits)) reports e

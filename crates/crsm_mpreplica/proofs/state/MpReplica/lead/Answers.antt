@@ -7,7 +7,7 @@ use Rattle.crsm_mpreplica.proofs.state.MpReplica.lead.Goals as goal
 
 pub returns : goal.returns
 unfolding noting open_of slots_of
-returns c x start reports s fits = record {
+returns c x s start reports fits = record {
   me = s.me;
   n = s.n;
   ledger = s.ledger;
