@@ -1,5 +1,5 @@
 -- Nothing of a schedule that can be run is refused, and no event for two causes.
-use Rattle.std.proofs.Common.{◌≡◌, ℕ, List, [], ◌∷◌, ◌++◌, Some, None, map, ap, sym, ◌∙◌, subst}
+use Rattle.std.proofs.Common.{◌≡◌, List, [], ◌∷◌, ◌++◌, Some, None, map, ap, sym, ◌∙◌, subst}
 use Rattle.crsm_schedule.specs.declared.Event.{Event}
 use Rattle.crsm_sim_schedule.specs.Rules.{AreExact}
 use Rattle.crsm_sim_schedule.specs.Schedules as read

@@ -1,6 +1,6 @@
 -- What a world answers, as the rules of the store have it.
 use Rattle.std.specs.Option.{option_map}
-use Rattle.std.proofs.Common.{◌≡◌, ◌≢◌, ℕ, ◌+◌, List, [], ◌∷◌, ◌++◌, Option, Some, None, refl, ap, sym, ◌∙◌, subst}
+use Rattle.std.proofs.Common.{◌≡◌, ◌≢◌, ℕ, ◌+◌, List, ◌++◌, Option, Some, None, refl, ap, sym, ◌∙◌, subst}
 use Rattle.crsm_mpspec.specs.declared.MpLine.{MpLine}
 use Rattle.crsm_schedule.specs.declared.Event.{Event}
 use Rattle.crsm_schedule.specs.Grammar.{IsSize, FitsEvent}

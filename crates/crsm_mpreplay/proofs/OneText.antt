@@ -1,5 +1,5 @@
 -- A text is that of one schedule.
-use Rattle.std.proofs.Common.{◌≡◌, ap}
+use Rattle.std.proofs.Common.{ap}
 use Rattle.crsm_sim_schedule.specs.Schedules as read
 use Rattle.crsm_mpworld.specs.Schedule.{Schedule, schedule_text}
 use Rattle.crsm_mpreplay.specs.Laws.{SchedulesAreOne}

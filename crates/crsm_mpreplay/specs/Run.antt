@@ -1,6 +1,6 @@
 -- The effects of a replay in a store with a leader: those of a replay, by the rules of that store, and what holds of the
 -- schedule.
-use Rattle.std.specs.Prelude.{ℕ, List, Option, Some}
+use Rattle.std.specs.Prelude.{ℕ, List, Option}
 use Rattle.crsm_port_lines.specs.declared.InputEnd.{InputEnd}
 use Rattle.crsm_sim_schedule.specs.Causes.{cause_in}
 use Rattle.crsm_sim_schedule.specs.Run as replay
