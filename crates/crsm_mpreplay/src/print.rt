@@ -7,7 +7,7 @@ ghost use Rattle.crsm_mpreplay.specs.Transcript.{kind_text, line_text, state_tex
 
 use crsm_base::{Answer, Bytes, NoMemory};
 use crsm_mpspec::{MpKind, MpLine};
-use crsm_text::{LineNumber, push_answer, push_named, push_numbers};
+use crsm_text::{LineNumber, Page, push_answer, push_named, push_numbers};
 
 /// Returns the word for a kind of message, with a space before it and a line feed after it.
 fn ended_kind(kind: MpKind) -> &'static [u8]
@@ -28,20 +28,24 @@ fn ended_kind(kind: MpKind) -> &'static [u8]
 /// Appends the number of a line, the part that the lines of all replies begin with, and a space.
 fn push_reply(
     out: &mut Bytes,
+    page: &mut Page,
     at: &LineNumber,
     replica: u32,
     client: u64,
     number: u64,
 ) -> Result<(), NoMemory>
-    ensures { OnOk result (out.new ≡ out.old ++ (decimal at.now ++ 32 ∷ (named (codes "reply") (replica ∷ client ∷ number ∷ []) ++ 32 ∷ []))) }
+    ensures out { OnOk result (out.new ≡ (out.old ++ page.old) ++ (decimal at.now ++ 32 ∷ (named (codes "reply") (replica ∷ client ∷ number ∷ []) ++ 32 ∷ []))) }
+    ensures page { OnOk result (page.new ≡ []) }
 {
     let values = [u64::from(replica), client, number];
-    at.push(out, b"reply", &values, b" ")
+    page.push(out, at, b"reply", &values, b" ")?;
+    page.flush(out)
 }
 
 /// Appends a line that ends with an answer. The answers that have no value are appended with the line.
 fn push_answered(
     out: &mut Bytes,
+    page: &mut Page,
     at: &LineNumber,
     name: &[u8],
     values: &[u64],
@@ -49,14 +53,15 @@ fn push_answered(
 ) -> Result<(), NoMemory>
     requires name { length name.now ≤ 8 }
     requires values { length values.now ≤ 8 }
-    ensures { OnOk result (out.new ≡ out.old ++ (decimal at.now ++ 32 ∷ ((named name.now values.now ++ 32 ∷ answer_text answer.now) ++ 10 ∷ []))) }
+    ensures { OnOk result (out.new ++ page.new ≡ (out.old ++ page.old) ++ (decimal at.now ++ 32 ∷ ((named name.now values.now ++ 32 ∷ answer_text answer.now) ++ 10 ∷ []))) }
 {
     match answer {
-        Answer::Missing => at.push(out, name, values, b" missing\n"),
-        Answer::Done => at.push(out, name, values, b" done\n"),
-        Answer::NoRoom => at.push(out, name, values, b" noroom\n"),
+        Answer::Missing => page.push(out, at, name, values, b" missing\n"),
+        Answer::Done => page.push(out, at, name, values, b" done\n"),
+        Answer::NoRoom => page.push(out, at, name, values, b" noroom\n"),
         Answer::Found(_) | Answer::Differs(_) | Answer::Stale(_) => {
-            at.push(out, name, values, b" ")?;
+            page.push(out, at, name, values, b" ")?;
+            page.flush(out)?;
             push_answer(out, answer)?;
             out.push(b'\n')
         }
@@ -83,15 +88,20 @@ fn push_final(out: &mut Bytes, replica: u32, up: bool, executed: u64) -> Result<
     out.push(b'\n')
 }
 
-/// Appends a line of the transcript with its line feed, after the number of the input line that caused it. A final line
-/// has no number. `NoMemory` if memory runs out; a prefix of the line may then have been appended.
-pub fn push_line(out: &mut Bytes, at: &LineNumber, line: &MpLine) -> Result<(), NoMemory>
-    ensures { OnOk result (out.new ≡ out.old ++ line_text at.now line.now) }
+/// Adds a line of the transcript with its line feed, after the number of the input line that caused it. A final line has
+/// no number. What does not fit on the page is moved to the end of `out`. `NoMemory` if memory runs out.
+pub fn push_line(
+    out: &mut Bytes,
+    page: &mut Page,
+    at: &LineNumber,
+    line: &MpLine,
+) -> Result<(), NoMemory>
+    ensures { OnOk result (out.new ++ page.new ≡ (out.old ++ page.old) ++ line_text at.now line.now) }
 {
     match line {
         MpLine::Boot { replica, count } => {
             let values = [u64::from(*replica), *count];
-            at.push(out, b"boot", &values, b"\n")
+            page.push(out, at, b"boot", &values, b"\n")
         }
         MpLine::Submit {
             replica,
@@ -103,7 +113,7 @@ pub fn push_line(out: &mut Bytes, at: &LineNumber, line: &MpLine) -> Result<(), 
         } => {
             let (replica, by) = (u64::from(*replica), u64::from(*by));
             let values = [replica, *slot, *round, by, *client, *number];
-            at.push(out, b"submit", &values, b"\n")
+            page.push(out, at, b"submit", &values, b"\n")
         }
         MpLine::Accept {
             replica,
@@ -112,15 +122,15 @@ pub fn push_line(out: &mut Bytes, at: &LineNumber, line: &MpLine) -> Result<(), 
             by,
         } => {
             let values = [u64::from(*replica), *slot, *round, u64::from(*by)];
-            at.push(out, b"accept", &values, b"\n")
+            page.push(out, at, b"accept", &values, b"\n")
         }
         MpLine::Promise { replica, round, by } => {
             let values = [u64::from(*replica), *round, u64::from(*by)];
-            at.push(out, b"promise", &values, b"\n")
+            page.push(out, at, b"promise", &values, b"\n")
         }
         MpLine::Choose { replica, slot } => {
             let values = [u64::from(*replica), *slot];
-            at.push(out, b"choose", &values, b"\n")
+            page.push(out, at, b"choose", &values, b"\n")
         }
         MpLine::Exec {
             replica,
@@ -130,11 +140,11 @@ pub fn push_line(out: &mut Bytes, at: &LineNumber, line: &MpLine) -> Result<(), 
             answer,
         } => {
             let values = [u64::from(*replica), *slot, *client, *number];
-            push_answered(out, at, b"exec", &values, answer)
+            push_answered(out, page, at, b"exec", &values, answer)
         }
         MpLine::ExecNoop { replica, slot } => {
             let values = [u64::from(*replica), *slot];
-            at.push(out, b"exec", &values, b" noop\n")
+            page.push(out, at, b"exec", &values, b" noop\n")
         }
         MpLine::Send {
             index,
@@ -143,7 +153,7 @@ pub fn push_line(out: &mut Bytes, at: &LineNumber, line: &MpLine) -> Result<(), 
             kind,
         } => {
             let values = [*index, u64::from(*from), u64::from(*to)];
-            at.push(out, b"send", &values, ended_kind(*kind))
+            page.push(out, at, b"send", &values, ended_kind(*kind))
         }
         MpLine::ReplyOk {
             replica,
@@ -152,7 +162,7 @@ pub fn push_line(out: &mut Bytes, at: &LineNumber, line: &MpLine) -> Result<(), 
             place,
             answer,
         } => {
-            push_reply(out, at, *replica, *client, *number)?;
+            push_reply(out, page, at, *replica, *client, *number)?;
             push_named(out, b"ok", &[*place])?;
             out.push(b' ')?;
             push_answer(out, answer)?;
@@ -164,7 +174,7 @@ pub fn push_line(out: &mut Bytes, at: &LineNumber, line: &MpLine) -> Result<(), 
             number,
             code,
         } => {
-            push_reply(out, at, *replica, *client, *number)?;
+            push_reply(out, page, at, *replica, *client, *number)?;
             push_named(out, b"no", &[u64::from(*code)])?;
             out.push(b'\n')
         }
@@ -174,18 +184,21 @@ pub fn push_line(out: &mut Bytes, at: &LineNumber, line: &MpLine) -> Result<(), 
             number,
             slot,
         } => {
-            push_reply(out, at, *replica, *client, *number)?;
+            push_reply(out, page, at, *replica, *client, *number)?;
             push_named(out, b"no", &[6, *slot])?;
             out.push(b'\n')
         }
         MpLine::Down { replica } => {
             let values = [u64::from(*replica)];
-            at.push(out, b"down", &values, b"\n")
+            page.push(out, at, b"down", &values, b"\n")
         }
         MpLine::Final {
             replica,
             up,
             executed,
-        } => push_final(out, *replica, *up, *executed),
+        } => {
+            page.flush(out)?;
+            push_final(out, *replica, *up, *executed)
+        }
     }
 }

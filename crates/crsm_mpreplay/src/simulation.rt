@@ -13,7 +13,7 @@ use crsm_mpworld::MpWorld;
 use crsm_port_lines::Stop;
 use crsm_schedule::Event;
 use crsm_sim_schedule::{Cause, Simulation};
-use crsm_text::LineNumber;
+use crsm_text::{LineNumber, Page};
 use std::alloc::Global;
 
 /// Memory in bytes reserved for the text of a line; few lines are longer.
@@ -39,23 +39,27 @@ fn named_cause(bad: MpBad) -> Option<Cause>
     }
 }
 
-/// Appends the text of the lines of a transcript. After an error the text is not usable.
-fn push_lines(text: &mut Bytes, at: u64, lines: &MpLines) -> Result<(), NoMemory>
+/// Appends the text of the lines of a transcript; of the page only the memory is used. After an error the text is not
+/// usable.
+fn push_lines(text: &mut Bytes, page: &mut Page, at: u64, lines: &MpLines) -> Result<(), NoMemory>
     ensures { OnOk result (text.new ≡ text.old ++ lines_text at lines.now) }
 {
     let room = lines.as_slice().len().saturating_mul(LINE_ROOM);
     text.reserve(room)?;
+    page.clear();
     let number = LineNumber::new(at);
     for line in lines.as_slice() {
-        push_line(text, &number, line)?;
+        push_line(text, page, &number, line)?;
     }
-    Ok(())
+    page.flush(text)
 }
 
 /// A store with a leader that runs a schedule.
 #[derive(Drop)]
 pub(crate) struct LeaderRun {
     world: MpWorld,
+    /// The page of the last lines: only its memory is used.
+    page: Page,
 }
 
 impl Simulation for LeaderRun {
@@ -67,8 +71,9 @@ impl Simulation for LeaderRun {
 
     fn begin(alloc: Global, replicas: u32, text: &mut Bytes) -> Result<LeaderRun, NoMemory> {
         let (world, lines) = MpWorld::new(alloc, replicas)?;
-        push_lines(text, 1, &lines)?;
-        Ok(LeaderRun { world })
+        let mut page = Page::new();
+        push_lines(text, &mut page, 1, &lines)?;
+        Ok(LeaderRun { world, page })
     }
 
     fn advance(&mut self, at: u64, event: &Event, text: &mut Bytes) -> Result<(), Stop<Cause>> {
@@ -79,7 +84,7 @@ impl Simulation for LeaderRun {
                 None => return Err(Stop::NoMemory),
             },
         };
-        let Ok(()) = push_lines(text, at, &lines) else {
+        let Ok(()) = push_lines(text, &mut self.page, at, &lines) else {
             return Err(Stop::NoMemory);
         };
         self.world.take_back(lines);
@@ -88,6 +93,6 @@ impl Simulation for LeaderRun {
 
     fn push_finals(&self, text: &mut Bytes) -> Result<(), NoMemory> {
         let lines = self.world.finals()?;
-        push_lines(text, 0, &lines)
+        push_lines(text, &mut Page::new(), 0, &lines)
     }
 }

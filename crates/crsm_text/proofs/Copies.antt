@@ -2,6 +2,7 @@
 use Rattle.std.proofs.Common.{◌≡◌, ℕ, ◌+◌, ◌-◌, ◌≤◌, List, ◌++◌, length, take, drop, ap, sym, ◌∙◌, arith, append_assoc}
 use Rattle.std.proofs.lemmas.List.{length-append, length-drop, length-take-le, take-take, take-append-le, take-append-drop, drop_at, drop-append-le, drop-take, drop-drop}
 use Rattle.std.proofs.lemmas.Slice.{drop-put_mid}
+use Rattle.std.proofs.Math.Seq.{take-append-add}
 use borrow.Rule.Slice.PartMut.{put_mid, post_of}
 
 -- a copy leaves the row as long as it was
@@ -38,13 +39,12 @@ both_written row text start size behind least whole most room =
     ∙ ap (λ s. s ++ post_of (start + behind) size one) (take-append-drop behind text)
     ∙ ap (λ s. text ++ s) tail
 
--- behind the start of what was copied
-pub copied : (row text : List ℕ) (start size begin : ℕ) → length text ≡ size → start ≤ length row → begin ≤ size
-    → drop (start + begin) (put_mid start size row text) ≡ drop begin text ++ drop (start + size) row
-copied row text start size begin whole room within =
+-- before the end of what was copied
+pub copied_to : (row text : List ℕ) (start size count : ℕ) → length text ≡ size → start ≤ length row → count ≤ size
+    → take (start + count) (put_mid start size row text) ≡ take start row ++ take count text
+copied_to row text start size count whole room within =
     let before : length (take start row) ≡ start = length-take-le start row room in
     let after : List ℕ = post_of start size row in
-    sym (drop-drop begin start (put_mid start size row text))
-    ∙ ap (λ s. drop begin s) (drop_at (take start row) (text ++ after) start before)
-    ∙ drop-append-le begin text after (omega (arith, whole, within))
-    ∙ ap (λ s. drop begin text ++ s) (drop-drop size start row)
+    ap (λ n. take (n + count) (take start row ++ (text ++ after))) (sym before)
+    ∙ take-append-add (take start row) (text ++ after) count
+    ∙ ap (λ s. take start row ++ s) (take-append-le count text after (omega (arith, whole, within)))

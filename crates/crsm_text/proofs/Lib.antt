@@ -8,3 +8,4 @@ pub mod Rows
 mod Copies
 mod Digits
 mod Lower
+mod Pages

@@ -5,10 +5,6 @@ ghost use Rattle.crsm_text.specs.Words.{named};
 
 use crsm_base::{Bytes, NoMemory};
 use itoa::{Buffer, write_digits};
-use std::marker::Model;
-
-/// Bytes of the longest decimal u64 and a space, and more so that a copy of all of them is quick.
-const NUMBER_BYTES: usize = 24;
 
 /// Bytes of a number, a word of 8 bytes, 8 numbers with a space before each, and an end of 16 bytes.
 const LINE_BYTES: usize = 216;
@@ -42,7 +38,8 @@ fn write_both<const SIZE: usize>(text: &[u8], row: &mut [u8], start: usize)
 }
 
 // Writes the text so that it ends at `end`, and returns the index at which it starts.
-fn write_text(text: &[u8], row: &mut [u8], end: usize) -> usize
+#[inline(always)]
+pub(crate) fn write_text(text: &[u8], row: &mut [u8], end: usize) -> usize
     requires short { length text.now ≤ 16 }
     requires room { (length text.now ≤ end) × (end ≤ length row.old) }
     ensures start { result + length text.now ≡ end }
@@ -120,60 +117,4 @@ pub fn push_numbered_wide(
     let mut buffer = Buffer::new();
     out.append(buffer.format(last).as_bytes())?;
     out.push(b'\n')
-}
-
-/// The number of a line. Its digits are formatted once for all lines that begin with it.
-#[derive(Drop)]
-pub struct LineNumber {
-    number: u64,
-    text: [u8; NUMBER_BYTES],
-    begin: usize,
-}
-
-impl Model for LineNumber {
-    ghost use Rattle.std.specs.Prelude.{◌≡◌, ◌≤◌, ◌++◌, ◌∷◌, [], ℕ, decimal, drop};
-
-    ghost Value = { ℕ };
-
-    ghost view = { λ n. n.number };
-
-    ghost invariant = { λ n. (n.begin ≤ 24) × (drop n.begin n.text ≡ decimal n.number ++ 32 ∷ []) };
-}
-
-impl LineNumber {
-    /// Returns the number of a line.
-    pub fn new(number: u64) -> LineNumber
-        ensures { result ≡ number }
-    {
-        let mut text = [b' '; NUMBER_BYTES];
-        let begin = write_number(number, &mut text, NUMBER_BYTES - 1);
-        LineNumber {
-            number,
-            text,
-            begin,
-        }
-    }
-
-    /// Appends the number, a word, the values and `end`, with a space before the word and before each value. `NoMemory`
-    /// if memory runs out.
-    // Compiled at each call, where the word and the count of the values are known.
-    #[inline(always)]
-    pub fn push(
-        &self,
-        out: &mut Bytes,
-        name: &[u8],
-        values: &[u64],
-        end: &[u8],
-    ) -> Result<(), NoMemory>
-        requires name { length name.now ≤ 8 }
-        requires values { length values.now ≤ 8 }
-        requires end { length end.now ≤ 16 }
-        ensures { OnOk result (out.new ≡ out.old ++ (decimal self.now ++ 32 ∷ (named name.now values.now ++ end.now))) }
-    {
-        let mut row = [b' '; LINE_BYTES];
-        let word = write_words(&mut row, name, values, end);
-        let start = word - NUMBER_BYTES;
-        row[start..word].copy_from_slice(&self.text);
-        out.append(&row[start + self.begin..])
-    }
 }
