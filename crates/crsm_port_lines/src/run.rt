@@ -10,6 +10,7 @@ use crate::handler::Handler;
 use crate::lines::{Halt, LineReader, LineRefusal};
 use crsm_io::{Sink, Source};
 use std::alloc::Global;
+use std::mem;
 
 /// Maximum length of an input in bytes.
 pub const MAX_INPUT_BYTES: u64 = 1_073_741_824;
@@ -87,6 +88,8 @@ fn run_through<H: Handler + Drop, I: Source, O: Sink>(
             if let Err(halt) = lines.finish(output) {
                 return halted(halt);
             }
+            // A large simulation takes long to drop, and the process ends with its input.
+            mem::forget(lines);
             return InputEnd::Done;
         }
         if total == MAX_INPUT_BYTES {
@@ -118,7 +121,8 @@ fn run_pieces<H: Handler + Drop, I: Source, O: Sink>(
 }
 
 /// Reads an input to its end, passes each line to the handler, and writes the text of the lines and of the end. Each
-/// variant of `Ending` says how it ended.
+/// variant of `InputEnd` says how it ended. After `Done` what the handler holds is not given back before the process
+/// ends.
 pub fn run_lines<H: Handler + Drop, I: Source, O: Sink>(
     alloc: Global,
     handler: H,
