@@ -173,7 +173,7 @@ impl Page {
         self.len = 0;
     }
 
-    /// Moves the text of the page to the end of other bytes. `NoMemory` if memory runs out; nothing has then changed.
+    /// Moves the text of the page to the end of other bytes. `NoMemory` if memory runs out.
     pub fn flush(&mut self, out: &mut Bytes) -> Result<(), NoMemory>
         ensures out { OnOk result (out.new ≡ out.old ++ self.old) }
         ensures empty { OnOk result (self.new ≡ []) }
