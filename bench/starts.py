@@ -82,7 +82,7 @@ def main():
             seconds, word, memory = min(starts)
             each = (memory * 1024 - size) / asked.commands
             print(f"sheet {name}: {seconds:.2f} s; {word}")
-            print(f"  {memory // 1000} MB of memory, {size / 1e6:.0f} of them the log: {each:.0f} bytes a command")
+            print(f"  {memory * 1024 / 1e6:.0f} MB of memory, {size / 1e6:.0f} of them the log: {each:.0f} bytes a command")
 
 
 if __name__ == "__main__":
