@@ -80,9 +80,10 @@ def main():
         for name, sheet in (("thrown away", os.devnull), ("in a file", "sheet")):
             starts = [start(folder, sheet) for _ in range(asked.runs)]
             seconds, word, memory = min(starts)
-            each = (memory * 1024 - size) / asked.commands
+            memory *= 1024
+            each = (memory - size) / asked.commands
             print(f"sheet {name}: {seconds:.2f} s; {word}")
-            print(f"  {memory * 1024 / 1e6:.0f} MB of memory, {size / 1e6:.0f} of them the log: {each:.0f} bytes a command")
+            print(f"  {memory / 1e6:.0f} MB of memory, {size / 1e6:.0f} of them the log: {each:.0f} bytes a command")
 
 
 if __name__ == "__main__":
