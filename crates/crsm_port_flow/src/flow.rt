@@ -112,15 +112,20 @@ impl<P: Drop, C: Drop> FlowPort<P, C> {
         ensures window { IfOk result (λ p. p.outbound.window ≡ new_window 0) }
         ensures unanswered { IfOk result (λ p. p.inbound.clients.requests.unanswered.entries ≡ []) }
     {
+        // Those with the most parts last: each is dropped where a later one finds no memory.
+        let room = Vec::from_elem(alloc, 0u8, MOST_RECEIVED)?;
+        let hearing = Hearing::new(alloc, me, peers)?;
+        let outbound = Outbound::new(alloc)?;
+        let inbound = Inbound::new(alloc)?;
         Ok(FlowPort {
             port: inner,
             clock,
             now: 0,
-            inbound: Inbound::new(alloc)?,
-            outbound: Outbound::new(alloc)?,
-            hearing: Hearing::new(alloc, me, peers)?,
+            inbound,
+            outbound,
+            hearing,
             quiet: Quiet::new(),
-            room: Vec::from_elem(alloc, 0u8, MOST_RECEIVED)?,
+            room,
             has_failed: false,
             is_soon: false,
             faults: 0,
