@@ -7,12 +7,11 @@
 //! disk after N further calls, where what was not synced reads as a closed or as an open gate.
 
 use crate::disks::disk_of;
-use crate::fault::Fault;
-use crate::table::push_answer;
 use crate::tale::tale_of;
 use crsm_base::{Bodies, Bytes};
 use crsm_disk::MemDisk;
 use crsm_shell::{BootError, Booted, Shell};
+use crsm_test_cases::Fault;
 use std::alloc::{AllocError, Global};
 
 /// What a boot found, and put on record.
@@ -95,7 +94,8 @@ fn answer_to(alloc: Global, line: &str) -> Result<String, Fault> {
 pub fn push_all(alloc: Global, text: &str, out: &mut Bytes) -> Result<(), Fault> {
     for line in text.lines() {
         let answer = answer_to(alloc, line)?;
-        push_answer(out, answer.as_str())?;
+        out.append(answer.as_bytes())?;
+        out.push(b'\n')?;
     }
     Ok(())
 }

@@ -10,14 +10,14 @@
 ghost use Rattle.std.specs.Prelude.{◌<◌, IfOk};
 ghost use Rattle.crsm_base.specs.Spelling.{FitsCommand};
 
-use crate::fault::Fault;
 use crate::lock::push_lock_line;
 use crate::packets::{port_of, push_sent};
-use crate::words::{number_of, parted, sink_of};
+use crate::words::{five_parts, number_of, parted, sink_of, three_parts};
 use crsm_base::{Bytes, Command, NoMemory, Outcome};
 use crsm_client::{AskError, ClientOrder, ask, client, operate_command};
 use crsm_io::MemSink;
 use crsm_port::MemPort;
+use crsm_test_cases::Fault;
 use crsm_text::{print_outcome, read_members, read_op};
 use std::alloc::Global;
 use std::str::from_utf8;
@@ -29,10 +29,9 @@ const ROOM: u64 = 4_096;
 pub fn command_of(alloc: Global, text: &str) -> Result<Command, Fault>
     ensures { IfOk result (λ command. FitsCommand command) }
 {
-    let (client, text) = parted(text)?;
-    let (order, text) = parted(text)?;
+    let (client, number, text) = three_parts(text)?;
     let client = number_of(client)?;
-    let number = number_of(order)?;
+    let number = number_of(number)?;
     let op = read_op(alloc, text.as_bytes())?;
     Ok(Command { client, number, op })
 }
@@ -96,10 +95,7 @@ fn push_client_line(
     datagrams: &str,
     out: &mut Bytes,
 ) -> Result<(), Fault> {
-    let (cluster, words) = parted(words)?;
-    let (to, words) = parted(words)?;
-    let (turns, words) = parted(words)?;
-    let (calls, words) = parted(words)?;
+    let (cluster, to, turns, calls, words) = five_parts(words)?;
     let (writes, words) = parted(words)?;
     let cluster = number_of(cluster)?;
     let order = order_of(alloc, to, turns, words)?;
@@ -147,10 +143,7 @@ fn push_ask_line(
     datagrams: &str,
     out: &mut Bytes,
 ) -> Result<(), Fault> {
-    let (to, words) = parted(words)?;
-    let (turns, words) = parted(words)?;
-    let (resend, words) = parted(words)?;
-    let (calls, words) = parted(words)?;
+    let (to, turns, resend, calls, words) = five_parts(words)?;
     let resend = number_of(resend)?.max(1);
     let order = order_of(alloc, to, turns, words)?;
     let mut port = port_of(alloc, calls, datagrams, ' ')?;
@@ -177,8 +170,7 @@ fn push_operate_line(
     datagrams: &str,
     out: &mut Bytes,
 ) -> Result<(), Fault> {
-    let (cluster, words) = parted(words)?;
-    let (to, words) = parted(words)?;
+    let (cluster, to, words) = three_parts(words)?;
     let (calls, members) = parted(words)?;
     let cluster = number_of(cluster)?;
     let to = number_of(to)?;

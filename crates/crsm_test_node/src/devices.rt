@@ -1,9 +1,9 @@
 //! What a replica of a run stands between, and the requests that come to it.
 
-use crate::fault::Fault;
 use crate::packets::port_of;
 use crsm_clock::ListClock;
 use crsm_port::MemPort;
+use crsm_test_cases::Fault;
 use std::alloc::Global;
 
 /// A port to which requests come, and a clock that stands still.

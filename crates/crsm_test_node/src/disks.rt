@@ -1,8 +1,8 @@
 //! Disks with logs.
 
-use crate::fault::Fault;
 use crate::words::bytes_of;
 use crsm_disk::{Disk, MemDisk};
+use crsm_test_cases::Fault;
 use std::alloc::Global;
 
 /// Returns a disk with the log of a line, all of it synced.

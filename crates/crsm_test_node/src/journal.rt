@@ -2,7 +2,6 @@
 //!
 //! For each line stand the lines of the node's journal, each behind its level, and then `== end`.
 
-use crate::fault::Fault;
 use crate::script::Script;
 use crate::words::{parted, small_of};
 use crsm_base::Bytes;
@@ -10,6 +9,7 @@ use crsm_ledger::Ledger;
 use crsm_node::{BootReport, Reporter};
 use crsm_replica_journal::Journal;
 use crsm_shell::TurnResult;
+use crsm_test_cases::Fault;
 use std::alloc::Global;
 
 /// A reporter that keeps all lines of a journal.

@@ -4,14 +4,14 @@ ghost use Rattle.std.specs.Prelude.{◌≡◌, ◌<◌, ◌-◌, ◌^◌, IfOk};
 ghost use Rattle.crsm_base.specs.Spelling.{FitsKey};
 
 use crate::client::{command_of, output_of, push_ended};
-use crate::fault::Fault;
 use crate::packets::port_of;
-use crate::words::{number_of, parted};
+use crate::words::{five_parts, number_of, parted};
 use crsm_base::{Bytes, Command, Key, Op};
 use crsm_cmd_lock::{LockOrder, lock};
 use crsm_io::MemSink;
 use crsm_lease::Action;
 use crsm_port::MemPort;
+use crsm_test_cases::Fault;
 use std::alloc::Global;
 
 fn action_of(word: &str) -> Result<Action, Fault> {
@@ -79,10 +79,7 @@ pub fn push_lock_line(
     datagrams: &str,
     out: &mut Bytes,
 ) -> Result<(), Fault> {
-    let (to, words) = parted(words)?;
-    let (turns, words) = parted(words)?;
-    let (calls, words) = parted(words)?;
-    let (writes, words) = parted(words)?;
+    let (to, turns, calls, writes, words) = five_parts(words)?;
     let order = order_of(alloc, number_of(to)?, number_of(turns)?, words)?;
     let mut port = port_of(alloc, calls, datagrams, ' ')?;
     let mut output = output_of(alloc, writes)?;

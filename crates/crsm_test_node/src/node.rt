@@ -5,11 +5,11 @@
 //! sheet that fail, and the bytes of the log file, or `same` for what a crash leaves of the one before. Parts of a word
 //! stand between commas, and `-` is none. Behind the status stand the sheet, what was sent, and the file.
 
-use crate::fault::Fault;
 use crate::script::Script;
 use crsm_base::{Bytes, NoMemory};
 use crsm_node::{NodeEnd, Silent};
 use crsm_port::SentPackets;
+use crsm_test_cases::Fault;
 use crsm_text::{push_hex, push_named};
 use std::alloc::Global;
 

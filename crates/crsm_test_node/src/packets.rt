@@ -1,9 +1,9 @@
 //! Datagrams with their addresses, as `ADDRESS:HEX`.
 
-use crate::fault::Fault;
 use crate::words::{bytes_of, number_of, numbers_of};
 use crsm_base::{Bytes, NoMemory};
 use crsm_port::MemPort;
+use crsm_test_cases::Fault;
 use crsm_text::{push_hex, push_number};
 use std::alloc::Global;
 

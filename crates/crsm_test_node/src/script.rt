@@ -1,14 +1,14 @@
 //! The line of a run.
 
 use crate::disks::{disk_with, failing_disk};
-use crate::fault::Fault;
 use crate::packets::port_of;
-use crate::words::{bytes_of, number_of, numbers_of, parted, sink_of, small_of};
+use crate::words::{bytes_of, five_parts, number_of, numbers_of, sink_of, small_of, three_parts};
 use crsm_clock::ListClock;
 use crsm_disk::MemDisk;
 use crsm_io::MemSink;
 use crsm_node::{NodeEnd, NodeOrder, Reporter, run_node};
 use crsm_port::MemPort;
+use crsm_test_cases::Fault;
 use std::alloc::Global;
 
 /// The most bytes of a sheet.
@@ -27,16 +27,9 @@ pub struct Script {
 impl Script {
     /// Reads a line, where the run before left these bytes of its log.
     pub fn read(alloc: Global, line: &str, before: &[u8]) -> Result<Box<Script>, Fault> {
-        let (me, words) = parted(line)?;
-        let (n, words) = parted(words)?;
-        let (turns, words) = parted(words)?;
-        let (peers, words) = parted(words)?;
-        let (cluster, words) = parted(words)?;
-        let (readings, words) = parted(words)?;
-        let (datagrams, words) = parted(words)?;
-        let (sends, words) = parted(words)?;
-        let (calls, words) = parted(words)?;
-        let (writes, file) = parted(words)?;
+        let (me, n, turns, peers, words) = five_parts(line)?;
+        let (cluster, readings, datagrams, sends, words) = five_parts(words)?;
+        let (calls, writes, file) = three_parts(words)?;
         let script = Script {
             order: order_of(alloc, me, n, turns, peers, cluster)?,
             clock: clock_of(alloc, readings)?,

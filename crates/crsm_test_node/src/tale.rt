@@ -2,12 +2,12 @@
 
 use crate::boot::boot;
 use crate::devices::Devices;
-use crate::fault::Fault;
 use crate::tale_words::{Word, word_of};
 use crate::traces::{push_answered, push_kept, push_refusal};
 use crate::words::{numbers_of, parted};
 use crsm_disk::MemDisk;
 use crsm_shell::{BootError, Shell, TurnError, TurnResult, WantedInput};
+use crsm_test_cases::Fault;
 use std::alloc::{AllocError, Global};
 
 /// Writes what comes of a replica that boots on an empty disk and does what the words say. The first two words are the

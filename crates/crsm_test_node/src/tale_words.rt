@@ -1,7 +1,7 @@
 //! The words of a run.
 
-use crate::fault::Fault;
 use crate::words::number_of;
+use crsm_test_cases::Fault;
 
 /// What a word of a run asks.
 #[derive(Clone, Copy)]

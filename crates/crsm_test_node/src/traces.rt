@@ -1,11 +1,11 @@
 //! What a run leaves on its devices.
 
 use crate::boot::found_on;
-use crate::fault::Fault;
 use crsm_base::Bodies;
 use crsm_disk::MemDisk;
 use crsm_port::MemPort;
 use crsm_shell::BootError;
+use crsm_test_cases::Fault;
 use std::alloc::{AllocError, Global};
 
 /// Appends how many calls of the disk there were, and the lengths of the bodies that a boot finds on it as a crash

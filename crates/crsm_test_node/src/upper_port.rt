@@ -6,7 +6,6 @@
 //! sends, `recv` receives and `flush` ends a group. The port is that of replica 0 of three, at the addresses 7000 to
 //! 7002. The clock is read at each `reserve`, and where an idle port with flow control receives.
 
-use crate::fault::Fault;
 use crate::packets::{failing_port, packet_of, push_packet, push_sent, put_packet};
 use crate::words::{number_of, numbers_of};
 use crsm_base::{Bytes, NoMemory};
@@ -15,6 +14,7 @@ use crsm_port::{MemPort, Port, Recv};
 use crsm_port_flow::FlowPort;
 use crsm_port_packets::PacketsPort;
 use crsm_port_peers::PeerPort;
+use crsm_test_cases::Fault;
 use std::alloc::Global;
 
 /// The port of a table.

@@ -1,7 +1,7 @@
 //! Words of a line.
 
-use crate::fault::Fault;
 use crsm_io::MemSink;
+use crsm_test_cases::Fault;
 use crsm_text::{hex_of, read_number};
 use std::alloc::Global;
 
@@ -11,6 +11,20 @@ pub fn parted(text: &str) -> Result<(&str, &str), Fault> {
         Some(parts) => Ok(parts),
         None => Err(Fault::Unreadable),
     }
+}
+
+/// Returns the three parts of a text around its first two spaces.
+pub fn three_parts(text: &str) -> Result<(&str, &str, &str), Fault> {
+    let (first, text) = parted(text)?;
+    let (second, text) = parted(text)?;
+    Ok((first, second, text))
+}
+
+/// Returns the five parts of a text around its first four spaces.
+pub fn five_parts(text: &str) -> Result<(&str, &str, &str, &str, &str), Fault> {
+    let (first, second, text) = three_parts(text)?;
+    let (third, fourth, text) = three_parts(text)?;
+    Ok((first, second, third, fourth, text))
 }
 
 /// Returns the number of a word.

@@ -73,7 +73,7 @@ fn number_word<R: AllocGlobal>(rt: &R, number: usize) -> Result<String, Fault> {
 /// Removes a file, if it is there.
 fn remove<R: Files>(rt: &R, name: &str) -> Result<(), Fault> {
     match fs::remove_file(rt, name) {
-        Err(error) if error.kind() != ErrorKind::NotFound => Err(Fault::Io(error)),
+        Err(error) if error.kind() != ErrorKind::NotFound => Err(Fault::Io),
         _ => Ok(()),
     }
 }

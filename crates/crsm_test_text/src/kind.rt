@@ -53,35 +53,42 @@ pub enum Kind {
     Control,
 }
 
+/// The words that name the kinds.
+static NAMES: [(&str, Kind); 24] = [
+    ("u8", Kind::U8),
+    ("u16", Kind::U16),
+    ("u32", Kind::U32),
+    ("u64", Kind::U64),
+    ("replica", Kind::Replica),
+    ("stamp", Kind::Stamp),
+    ("ballot", Kind::Ballot),
+    ("option_stamp", Kind::OptionStamp),
+    ("key", Kind::Key),
+    ("val", Kind::Val),
+    ("option_val", Kind::OptionVal),
+    ("op", Kind::Op),
+    ("command", Kind::Command),
+    ("entry", Kind::Entry),
+    ("entries", Kind::Entries),
+    ("members", Kind::Members),
+    ("decision", Kind::Decision),
+    ("option_vote", Kind::OptionVote),
+    ("answer", Kind::Answer),
+    ("outcome", Kind::Outcome),
+    ("rec", Kind::Rec),
+    ("body", Kind::Body),
+    ("datagram", Kind::Datagram),
+    ("control", Kind::Control),
+];
+
 impl Kind {
     /// Returns the kind that a word names, if any does.
     pub fn named(word: &str) -> Option<Kind> {
-        match word {
-            "u8" => Some(Kind::U8),
-            "u16" => Some(Kind::U16),
-            "u32" => Some(Kind::U32),
-            "u64" => Some(Kind::U64),
-            "replica" => Some(Kind::Replica),
-            "stamp" => Some(Kind::Stamp),
-            "ballot" => Some(Kind::Ballot),
-            "option_stamp" => Some(Kind::OptionStamp),
-            "key" => Some(Kind::Key),
-            "val" => Some(Kind::Val),
-            "option_val" => Some(Kind::OptionVal),
-            "op" => Some(Kind::Op),
-            "command" => Some(Kind::Command),
-            "entry" => Some(Kind::Entry),
-            "entries" => Some(Kind::Entries),
-            "members" => Some(Kind::Members),
-            "decision" => Some(Kind::Decision),
-            "option_vote" => Some(Kind::OptionVote),
-            "answer" => Some(Kind::Answer),
-            "outcome" => Some(Kind::Outcome),
-            "rec" => Some(Kind::Rec),
-            "body" => Some(Kind::Body),
-            "datagram" => Some(Kind::Datagram),
-            "control" => Some(Kind::Control),
-            _ => None,
+        for (name, kind) in &NAMES {
+            if *name == word {
+                return Some(*kind);
+            }
         }
+        None
     }
 }

@@ -6,7 +6,7 @@ use crsm_base::Bytes;
 use std::alloc::Global;
 
 /// A table, which says what its rows are read as.
-#[derive(Clone, Copy)]
+#[derive(Clone, Copy, Debug)]
 pub enum Table {
     /// Lines of schedules.
     Lines,
@@ -38,7 +38,7 @@ impl Table {
 
     /// Appends what a row is read as, with its line feed. After a fault the first lines of the answer may have been
     /// added.
-    pub fn tell(self, alloc: Global, row: &str, out: &mut Bytes) -> Result<(), Fault> {
+    pub(crate) fn tell(self, alloc: Global, row: &str, out: &mut Bytes) -> Result<(), Fault> {
         match self {
             Table::Lines => lines::tell(alloc, row, out),
             Table::Sheet => sheet::tell(alloc, row, out),

@@ -25,9 +25,6 @@ fn numbers(line: &str) -> Option<(u64, u32, u64)>
 }
 
 /// Writes what each soak writes, and how it ends.
-///
-/// # Errors
-/// The output failed.
 pub fn show_soaks<R: AllocGlobal + Print>(rt: &R, cases: &str) -> Result<(), Fault> {
     for line in cases.lines() {
         let Some((number, replicas, steps)) = numbers(line) else {

@@ -30,9 +30,6 @@ fn times_of(alloc: Global, header: &str, plan: &str) -> Result<String, Fault> {
 }
 
 /// Writes the moments of each plan, and how its reading ended.
-///
-/// # Errors
-/// A case is not readable, memory ran out, or the output failed.
 pub fn show_delays<R: AllocGlobal + Print>(rt: &R, cases: &str) -> Result<(), Fault> {
     for case in cases.split("== ").skip(1) {
         let (header, plan) = parted(case, "\n")?;
