@@ -42,5 +42,5 @@ ask "$port" "$((number + 2))" put 61 63
 say "Node 2 is started again on its log, is taken in, and reads what was put without it"
 bash "$cluster" restart "$program" "$folder/nodes" 2 >/dev/null || exit 1
 ask "$((port + 2))" "$((number + 3))" get 61
-say "This program is UNPROVED. To prove all and link the proved program, 45 to 90 minutes, at the top of the clone:"
+say "This program is UNPROVED. To prove all and link the proved program, in one to two hours, at the top of the clone:"
 echo "rt all check --jobs 4 && (cd crates/crsm && rt run -- replay < ../../examples/first.schedule)"
