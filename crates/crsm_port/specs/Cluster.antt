@@ -1,5 +1,5 @@
 -- The port of one cluster over a port that clusters share. On the wire a datagram is preceded by its cluster's number.
-use Rattle.std.specs.Prelude.{◌≡◌, ◌≤◌, ◌⊎◌, ℕ, zero, suc, ◌+◌, ◌-◌, ◌^◌, min, List, [], ◌++◌, length, take, drop, None, eqb, if◌then◌else◌}
+use Rattle.std.specs.Prelude.{◌≡◌, ◌⊎◌, ℕ, zero, suc, ◌+◌, ◌-◌, ◌^◌, min, List, [], ◌++◌, take, drop, None, eqb, if◌then◌else◌}
 use Rattle.std.specs.List.{starts_with}
 use Rattle.crsm_wire.specs.Marks.{mark_of}
 use Rattle.crsm_port.specs.Meaning.{Framing, IsShort, Meaning}

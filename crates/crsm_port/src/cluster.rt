@@ -1,6 +1,6 @@
 //! The port of one cluster, over a port that the clusters of a network share.
 
-ghost use Rattle.std.specs.Prelude.{◌≡◌, ◌≢◌, ℕ, ◌+◌, ◌++◌, ◌*◌, ◌≤◌, length, take, IfOk, IfSome};
+ghost use Rattle.std.specs.Prelude.{◌≡◌, ◌≢◌, ℕ, ◌+◌, ◌++◌, ◌*◌, ◌≤◌, length, take, IfErr, IfOk, IfSome};
 ghost use Rattle.crsm_port.specs.Meaning.{IsShort, Receives, Sends};
 ghost use Rattle.crsm_port.specs.Passing.{HandsUpBy, PassesOn, PassesOnBy};
 ghost use Rattle.crsm_port.specs.Cluster.{IsShortIn, clustered, given_to, sent_by, unwrapped, wrapped};
@@ -31,17 +31,20 @@ pub struct ClusterPort<P> {
 }
 
 impl<P: Drop> ClusterPort<P> {
-    /// Returns a port of the cluster over `inner`, or `NoMemory` if memory runs out.
-    pub fn new(alloc: Global, inner: P, cluster: u64) -> Result<ClusterPort<P>, NoMemory>
-        ensures { IfOk result (λ p. (p.inner ≡ inner) × (p.cluster ≡ cluster) × (p.too_long ≡ 0)) }
+    /// Returns a port of the cluster over `inner`; or `NoMemory` and `inner` as it was if memory runs out.
+    pub fn new(alloc: Global, inner: P, cluster: u64) -> Result<ClusterPort<P>, (NoMemory, P)>
+        ensures made { IfOk result (λ p. (p.inner ≡ inner) × (p.cluster ≡ cluster) × (p.too_long ≡ 0)) }
+        ensures back { IfErr result (λ e. e.1 ≡ inner) }
     {
-        let room = Vec::from_elem(alloc, 0u8, MOST_ON_THE_WIRE)?;
-        Ok(ClusterPort {
-            inner,
-            cluster,
-            room,
-            too_long: 0,
-        })
+        match Vec::from_elem(alloc, 0u8, MOST_ON_THE_WIRE) {
+            Ok(room) => Ok(ClusterPort {
+                inner,
+                cluster,
+                room,
+                too_long: 0,
+            }),
+            Err(_) => Err((NoMemory, inner)),
+        }
     }
 
     /// Returns the inner port.
