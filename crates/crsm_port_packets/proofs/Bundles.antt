@@ -54,14 +54,14 @@ entries_more (x ∷ ds) d = ap (λ (r : List ℕ). entry x ++ r) (entries_more d
 not_both : (b : Bool) → b ≡ true → b ≡ false → ⊥
 not_both b is other = cc
 
-module _ (P Q : Datagrams) (to : ℕ) (packet entries : List ℕ) (is_bundle : packet ≡ 17 ∷ 0 ∷ entries) where
+module _ (P Q : Datagrams) (to : ℕ) (packet entries : List ℕ) (is_bundle : packet ≡ 20 ∷ 0 ∷ entries) where
   pub lone_went : (bytes : List ℕ) → entry_at entries ≡ Some (bytes, []) → is_packed bytes ≡ false → OneMore to bytes P Q → NoMore (either (carried P) (standing_in to packet)) (carried Q)
   lone_went bytes alone_there plain one a d is = elim is [
     | inl alone ↦ elim (one a d alone.1) [
       | inl before ↦ inl (inl (alone.0, before))
       | inr w ↦ inr (w.0, (entries, is_bundle, subst (λ (x : List ℕ). StandsIn x entries) (sym w.1) (first alone_there)))
     ]
-    | inr stands ↦ elim (one a (17 ∷ 0 ∷ stands.0) stands.1) [
+    | inr stands ↦ elim (one a (20 ∷ 0 ∷ stands.0) stands.1) [
       | inl before ↦ inl (inr (stands.0, before, stands.2))
       | inr w ↦ absurd (not_both (is_packed bytes) (ap is_packed (sym w.1)) plain)
     ]
@@ -69,7 +69,7 @@ module _ (P Q : Datagrams) (to : ℕ) (packet entries : List ℕ) (is_bundle : p
 
 -- ---- what waits
 
-pub same_entries : (a b : List ℕ) → (17 ∷ 0 ∷ a) ≡ (17 ∷ 0 ∷ b) → a ≡ b
+pub same_entries : (a b : List ℕ) → (20 ∷ 0 ∷ a) ≡ (20 ∷ 0 ∷ b) → a ≡ b
 same_entries a b is = ap (drop 2) is
 
 pub filled_waits : (to : ℕ) (waiting : List Packet) (packet : List ℕ) → IsFilled to waiting packet → NoMore (Among waiting) (standing_in to packet)
@@ -87,8 +87,8 @@ module _ (P Q R : Datagrams) (waiting : List Packet) where
   ]
 
 -- one more datagram that waits is in the packet
-pub filled_first : (to : ℕ) (waiting : List Packet) (packet bytes : List ℕ) → Among waiting to bytes → packet ≡ 17 ∷ 0 ∷ entry bytes → IsFilled to waiting packet
-filled_first to waiting packet bytes waits is = inr (bytes ∷ [], is ∙ ap (λ (r : List ℕ). 17 ∷ 0 ∷ r) (sym (entries_more [] bytes)), λ d has. only d has)
+pub filled_first : (to : ℕ) (waiting : List Packet) (packet bytes : List ℕ) → Among waiting to bytes → packet ≡ 20 ∷ 0 ∷ entry bytes → IsFilled to waiting packet
+filled_first to waiting packet bytes waits is = inr (bytes ∷ [], is ∙ ap (λ (r : List ℕ). 20 ∷ 0 ∷ r) (sym (entries_more [] bytes)), λ d has. only d has)
   where
     only : (d : List ℕ) → Contains (bytes ∷ []) d → Among waiting to d
     only d (zero, lt, same) = subst (λ (x : List ℕ). Among waiting to x) same waits
@@ -97,7 +97,7 @@ filled_first to waiting packet bytes waits is = inr (bytes ∷ [], is ∙ ap (λ
 pub filled_more : (to : ℕ) (waiting : List Packet) (old new bytes : List ℕ) → Among waiting to bytes → (old ≡ [] → ⊥) → new ≡ old ++ entry bytes → IsFilled to waiting old → IsFilled to waiting new
 filled_more to waiting old new bytes waits some is filled = elim filled [
   | inl none ↦ absurd (some none)
-  | inr w ↦ inr (w.0 ++ bytes ∷ [], is ∙ ap (λ (r : List ℕ). r ++ entry bytes) w.1 ∙ ap (λ (r : List ℕ). 17 ∷ 0 ∷ r) (sym (entries_more w.0 bytes)), λ d has. each w.0 w.2 d has)
+  | inr w ↦ inr (w.0 ++ bytes ∷ [], is ∙ ap (λ (r : List ℕ). r ++ entry bytes) w.1 ∙ ap (λ (r : List ℕ). 20 ∷ 0 ∷ r) (sym (entries_more w.0 bytes)), λ d has. each w.0 w.2 d has)
 ]
   where
     each : (ds : List (List ℕ)) → ((d : List ℕ) → Contains ds d → Among waiting to d) → (d : List ℕ) → Contains (ds ++ bytes ∷ []) d → Among waiting to d

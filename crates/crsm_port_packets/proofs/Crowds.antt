@@ -3,7 +3,7 @@ use Rattle.std.proofs.Common.{◌≡◌, ◌∙◌, ◌+◌, ◌<◌, ◌≤◌,
 use Rattle.std.proofs.lemmas.Bool.{eqb-true}
 use Rattle.std.specs.List.{remove}
 use Rattle.std.specs.Prelude.{◌⊎◌, ◌==◌, if◌then◌else◌, Contains, slice_index_or}
-use Rattle.crsm_port_packets.specs.Kept.{Arrived, StaysBut, arrived, crowd, kept_in}
+use Rattle.crsm_port_packets.specs.Kept.{Arrived, IsHeld, StaysBut, arrived, crowd}
 use Rattle.crsm_port_packets.specs.declared.fragments.Piece.{Piece}
 
 -- what is counted of one
@@ -61,26 +61,26 @@ rest (x ∷ xs) (suc i) d y lt (suc k, within, is) = elim (rest xs i d y (omega 
 ]
 
 pub stays_removed : (from : ℕ) (xs : List Piece) (i : ℕ) (d : Piece) → i < length xs → (slice_index_or xs i d).from ≡ from → 28 ≤ crowd from xs → StaysBut from xs (remove xs i)
-stays_removed from xs i d lt is many address f has = elim (rest xs i d (record { from = address; fragment = f }) lt has) [
+stays_removed from xs i d lt is many a has = elim (rest xs i d a lt has) [
   | inl still ↦ inl still
-  | inr same ↦ inr (sym (ap (λ (a : Arrived). a.from) same) ∙ is, many)
+  | inr same ↦ inr (sym (ap (λ (b : Arrived). b.from) same) ∙ is, many)
 ]
 
 pub stays_same : (from : ℕ) (xs ys : List Piece) → ys ≡ xs → StaysBut from xs ys
-stays_same from xs ys same address f has = inl (subst (λ (zs : List Piece). kept_in zs address f) (sym same) has)
+stays_same from xs ys same a has = inl (subst (λ (zs : List Piece). IsHeld zs a) (sym same) has)
 
 pub stays_pushed : (from : ℕ) (xs mid : List Piece) (p : Piece) → StaysBut from xs mid → StaysBut from xs (mid ++ p ∷ [])
-stays_pushed from xs mid p before address f has = elim (before address f has) [
+stays_pushed from xs mid p before a has = elim (before a has) [
   | inl still ↦ inl (more mid still)
   | inr left ↦ inr left
 ]
   where
-    more : (zs : List Piece) → kept_in zs address f → kept_in (zs ++ p ∷ []) address f
+    more : (zs : List Piece) → IsHeld zs a → IsHeld (zs ++ p ∷ []) a
     more [] (k, lt, is) = absurd (omega (arith, lt))
     more (z ∷ zs) (zero, lt, is) = (zero, omega arith, is)
     more (z ∷ zs) (suc k, lt, is) = let w = more zs (k, omega (arith, lt), is) in (suc w.0, omega (arith, w.1), w.2)
 
-pub kept_last : (mid : List Piece) (p : Piece) → kept_in (mid ++ p ∷ []) p.from (arrived p).fragment
+pub kept_last : (mid : List Piece) (p : Piece) → IsHeld (mid ++ p ∷ []) (arrived p)
 kept_last [] p = (zero, omega arith, refl)
 kept_last (z ∷ zs) p = let w = kept_last zs p in (suc w.0, omega (arith, w.1), w.2)
 
@@ -117,3 +117,9 @@ few_pushed xs mid p few room address before = go (p.from == address) refl
 -- one more of the list is counted
 pub piece_at : (from : ℕ) (xs : List Piece) (i : ℕ) (p : Piece) → i < length xs → p ≡ slice_index_or xs i p → crowd from (take (i + 1) xs) ≡ crowd from (take i xs) + one_of from p
 piece_at from xs i p lt is = crowd_more from xs i p lt ∙ ap (λ (q : Piece). crowd from (take i xs) + one_of from q) (sym is)
+
+-- one of the list is kept
+pub kept_at : (xs : List Piece) (i : ℕ) (p : Piece) → i < length xs → p ≡ slice_index_or xs i p → IsHeld xs (arrived p)
+kept_at [] i p lt is = absurd (omega (arith, lt))
+kept_at (x ∷ xs) zero p lt is = (zero, omega arith, sym (ap arrived is))
+kept_at (x ∷ xs) (suc i) p lt is = let w = kept_at xs i p (omega (arith, lt)) is in (suc w.0, omega (arith, w.1), w.2)

@@ -113,15 +113,15 @@ is_bundle to waiting packet (inr w) = inr (entries_of w.0, w.1)
 
 -- ---- one more datagram in a packet
 
-holds_first : (packet bytes : List ℕ) → packet ≡ 17 ∷ 0 ∷ entry bytes → Holds packet bytes
-holds_first packet bytes is = (bytes ∷ [], is ∙ ap (λ (r : List ℕ). 17 ∷ 0 ∷ r) (sym (entries_more [] bytes)), (zero, omega arith, refl))
+holds_first : (packet bytes : List ℕ) → packet ≡ 20 ∷ 0 ∷ entry bytes → Holds packet bytes
+holds_first packet bytes is = (bytes ∷ [], is ∙ ap (λ (r : List ℕ). 20 ∷ 0 ∷ r) (sym (entries_more [] bytes)), (zero, omega arith, refl))
 
 module _ (old new bytes : List ℕ) (more : HasOneMore bytes old new) where
   holds_still : (d : List ℕ) → Holds old d → Holds new d
   holds_still d (ds, is, has) =
       let some : old ≡ [] → ⊥ = λ none. cc in (
         ds ++ bytes ∷ [],
-        more.more some ∙ ap (λ (r : List ℕ). r ++ entry bytes) is ∙ ap (λ (r : List ℕ). 17 ∷ 0 ∷ r) (sym (entries_more ds bytes)),
+        more.more some ∙ ap (λ (r : List ℕ). r ++ entry bytes) is ∙ ap (λ (r : List ℕ). 20 ∷ 0 ∷ r) (sym (entries_more ds bytes)),
         Contains-append_left ds (bytes ∷ []) d has,
       )
 
@@ -130,7 +130,7 @@ module _ (old new bytes : List ℕ) (more : HasOneMore bytes old new) where
   holds_new to waiting (inr (ds, is, stand)) =
       let some : old ≡ [] → ⊥ = λ none. cc in (
         ds ++ bytes ∷ [],
-        more.more some ∙ ap (λ (r : List ℕ). r ++ entry bytes) is ∙ ap (λ (r : List ℕ). 17 ∷ 0 ∷ r) (sym (entries_more ds bytes)),
+        more.more some ∙ ap (λ (r : List ℕ). r ++ entry bytes) is ∙ ap (λ (r : List ℕ). 20 ∷ 0 ∷ r) (sym (entries_more ds bytes)),
         Contains-push ds bytes,
       )
 

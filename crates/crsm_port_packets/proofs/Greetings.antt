@@ -62,13 +62,13 @@ module _ (start peers : List Peer) (i : ℕ) (same : SamePeers start peers) (lt 
 
   -- one more of the peers may be greeted
   pub greets_more : (d : Peer) (to : ℕ) (M : Meaning) (mid new : Meaning) (greetings : List Packet) → to ≡ (slice_index_or peers i d).address → AllGreet (addresses_of start) greetings → SendsAll greetings M mid
-      → (new ≡ mid) ⊎ ((result : Result (Unit {0}) Failed) × Sends to (17 ∷ 0 ∷ []) mid new result) → (more : List Packet) × AllGreet (addresses_of start) more × SendsAll more M new
+      → (new ≡ mid) ⊎ ((result : Result (Unit {0}) Failed) × Sends to (20 ∷ 0 ∷ []) mid new result) → (more : List Packet) × AllGreet (addresses_of start) more × SendsAll more M new
   greets_more d to M mid new greetings is all sent goes = elim goes [
     | inl none ↦ (greetings, all, subst (λ (m : Meaning). SendsAll greetings M m) (sym none) sent)
     | inr w ↦ (
-      greetings ++ (record { address = to; bytes = 17 ∷ 0 ∷ [] }) ∷ [],
-      All-push (λ (p : Packet). (p.bytes ≡ 17 ∷ 0 ∷ []) × Contains (addresses_of start) p.address) greetings (record { address = to; bytes = 17 ∷ 0 ∷ [] }) all (refl, there),
-      sends_both greetings ((record { address = to; bytes = 17 ∷ 0 ∷ [] }) ∷ []) M mid new sent (new, w.0, w.1, refl),
+      greetings ++ (record { address = to; bytes = 20 ∷ 0 ∷ [] }) ∷ [],
+      All-push (λ (p : Packet). (p.bytes ≡ 20 ∷ 0 ∷ []) × Contains (addresses_of start) p.address) greetings (record { address = to; bytes = 20 ∷ 0 ∷ [] }) all (refl, there),
+      sends_both greetings ((record { address = to; bytes = 20 ∷ 0 ∷ [] }) ∷ []) M mid new sent (new, w.0, w.1, refl),
     )
   ]
     where
@@ -85,8 +85,8 @@ all_peers start i waiting old new le goes = subst (λ (ps : List Peer). LetsGo (
     whole (p ∷ ps) zero short = absurd (omega (arith, short))
     whole (p ∷ ps) (suc k) short = ap (λ (r : List Peer). p ∷ r) (whole ps k (omega (arith, short)))
 
-pub port_goes : {X : Type 0} (M : X → Meaning) (before after : X) (to : ℕ) → (after ≡ before) ⊎ ((result : Result (Unit {0}) Failed) × Sends to (17 ∷ 0 ∷ []) (M before) (M after) result)
-    → (M after ≡ M before) ⊎ ((result : Result (Unit {0}) Failed) × Sends to (17 ∷ 0 ∷ []) (M before) (M after) result)
+pub port_goes : {X : Type 0} (M : X → Meaning) (before after : X) (to : ℕ) → (after ≡ before) ⊎ ((result : Result (Unit {0}) Failed) × Sends to (20 ∷ 0 ∷ []) (M before) (M after) result)
+    → (M after ≡ M before) ⊎ ((result : Result (Unit {0}) Failed) × Sends to (20 ∷ 0 ∷ []) (M before) (M after) result)
 port_goes M before after to goes = elim goes [
   | inl same ↦ inl (ap M same)
   | inr w ↦ inr w

@@ -1,9 +1,9 @@
 -- Fragments are kept, and put together once all have come.
-use Rattle.std.proofs.Common.{◌≡◌, ◌∙◌, ◌<◌, ◌++◌, ℕ, zero, suc, List, [], ◌∷◌, length, map, sym, ap, arith, true, append_assoc, append-nil}
+use Rattle.std.proofs.Common.{◌≡◌, ◌∙◌, ◌<◌, ◌++◌, ℕ, zero, suc, List, [], ◌∷◌, Bool, true, false, cond, length, map, sym, ap, subst, arith, append_assoc, append-nil}
 use Rattle.std.proofs.lemmas.Bool.Decides.{nat_tests}
-use Rattle.std.specs.List.{concat, remove}
+use Rattle.std.specs.List.{concat, filter, remove}
 use Rattle.std.specs.Prelude.{Contains, nat_lt, slice_index_or}
-use Rattle.crsm_port_packets.specs.Kept.{Forgets, arrived}
+use Rattle.crsm_port_packets.specs.Kept.{Forgets, IsHeld, arrived, is_recent}
 use Rattle.crsm_port_packets.specs.declared.fragments.Piece.{Piece}
 
 -- one that is in a list without one of its elements was there before
@@ -15,7 +15,20 @@ remove_less f (z ∷ xs) (suc i) y (zero, lt, is) = (zero, omega arith, is)
 remove_less f (z ∷ xs) (suc i) y (suc k, lt, is) = let w = remove_less f xs i y (k, omega (arith, lt), is) in (suc w.0, omega (arith, w.1), w.2)
 
 pub forgets_one : (old : List Piece) (i : ℕ) → Forgets old (remove old i)
-forgets_one old i address f has = remove_less arrived old i (record { from = address; fragment = f }) has
+forgets_one old i a has = remove_less arrived old i a has
+
+-- those that came lately were there before
+pub forgets_recent : (now : ℕ) (old new : List Piece) → new ≡ filter (is_recent now) old → Forgets old new
+forgets_recent now old new is a has = go old (subst (λ (ps : List Piece). IsHeld ps a) is has)
+  where
+    at : (p : Piece) (ps : List Piece) (b : Bool) → (IsHeld (filter (is_recent now) ps) a → IsHeld ps a) → IsHeld (cond b (p ∷ filter (is_recent now) ps) (filter (is_recent now) ps)) a → IsHeld (p ∷ ps) a
+    at p ps true rest (zero, lt, is) = (zero, omega arith, is)
+    at p ps true rest (suc k, lt, is) = let w = rest (k, omega (arith, lt), is) in (suc w.0, omega (arith, w.1), w.2)
+    at p ps false rest is = let w = rest is in (suc w.0, omega (arith, w.1), w.2)
+
+    go : (ps : List Piece) → IsHeld (filter (is_recent now) ps) a → IsHeld ps a
+    go [] (k, lt, is) = (k, lt, is)
+    go (p ∷ ps) is = at p ps (is_recent now p) (go ps) is
 
 -- ---- pieces, one after another
 

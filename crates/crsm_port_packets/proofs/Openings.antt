@@ -7,7 +7,7 @@ use Rattle.crsm_port.specs.declared.port.Recv.{Recv}
 use Rattle.crsm_port_packets.specs.Carrying.{Fragments, bundled_in, put_together}
 use Rattle.crsm_port_packets.specs.Format.{FragmentFields}
 use Rattle.crsm_port_packets.specs.Held.{Opens, fragments_with, made_of, unpacked}
-use Rattle.crsm_port_packets.specs.Kept.{kept_in}
+use Rattle.crsm_port_packets.specs.Kept.{Forgets, kept_in}
 use Rattle.crsm_port_packets.specs.Waiting.{waiting_in}
 use Rattle.crsm_port_packets.specs.declared.received.Received.{Received}
 use Rattle.crsm_port_packets.proofs.Unpackings.{cut_more, of_more}
@@ -21,7 +21,7 @@ only_more P from packet came a b (at, same) = subst (λ (x : ℕ). P x b) (sym a
 
 module _ (P Q : Datagrams) (more : NoMore P Q) where
   bundled_more : NoMore (bundled_in P) (bundled_in Q)
-  bundled_more a d (entries, came, stands) = (entries, more a (17 ∷ 0 ∷ entries) came, stands)
+  bundled_more a d (entries, came, stands) = (entries, more a (20 ∷ 0 ∷ entries) came, stands)
 
   pub fragments_more : (r : Received) (address : ℕ) (f : FragmentFields) → fragments_with Q r address f → fragments_with P r address f
   fragments_more r address f has = elim has [
@@ -66,12 +66,17 @@ module _ (P Q : Datagrams) (old new : Received) (more : NoMore P Q) where
   waits_less less same = unpacked_more P Q more old new (λ a d is. inl (less a d is))
       (λ a f is. inl (subst (λ (fs : _). kept_in fs.pieces.items a f) same is))
 
+  -- fragments were forgotten
+  pub forgets_more : (let held : Received = record old { fragments = new.fragments } in new ≡ held) → Forgets old.fragments.pieces.items new.fragments.pieces.items → NoMore (unpacked P old) (unpacked Q new)
+  forgets_more same forgets = unpacked_more P Q more old new (λ a d is. inl (subst (λ (r : Received). waiting_in r.unpacking a d) same is))
+      (λ a f (at, is). inl (at, forgets (record { from = a; at = at; fragment = f }) is))
+
   -- a packet from below was taken
   pub opened : (from : ℕ) (packet : List ℕ) → P from packet → Opens from packet old new → NoMore (unpacked P old) (unpacked Q new)
   opened from packet came opens = unpacked_more P Q more old new
       (λ a d is. elim (opens.waiting a d is) [
         | inl before ↦ inl before
-        | inr w ↦ inr (w.0, only_more P from packet came a (17 ∷ 0 ∷ w.0) w.1, w.2)
+        | inr w ↦ inr (w.0, only_more P from packet came a (20 ∷ 0 ∷ w.0) w.1, w.2)
       ])
       (λ a f is. fragments_more P (Only from packet) (only_more P from packet came) old a f (opens.kept a f is))
 

@@ -31,7 +31,7 @@ unpacks_less P Q old new more same = waits_less P Q old new more
 pub carries_less : (P Q : Datagrams) → NoMore P Q → NoMore (carried P) (carried Q)
 carries_less P Q more a d is = elim is [
   | inl alone ↦ inl (alone.0, more a d alone.1)
-  | inr stands ↦ inr (stands.0, more a (17 ∷ 0 ∷ stands.0) stands.1, stands.2)
+  | inr stands ↦ inr (stands.0, more a (20 ∷ 0 ∷ stands.0) stands.1, stands.2)
 ]
 
 -- ---- what waits
@@ -51,7 +51,7 @@ module _ (P Q : Datagrams) (waiting : List Packet) where
         | inl before ↦ inl (inl (inl (alone.0, before)))
         | inr w ↦ inr w
       ]
-      | inr stands ↦ elim (one a (17 ∷ 0 ∷ stands.0) stands.1) [
+      | inr stands ↦ elim (one a (20 ∷ 0 ∷ stands.0) stands.1) [
         | inl before ↦ inl (inl (inr (stands.0, before, stands.2)))
         | inr w ↦ absurd (packed_alone stands.0 w.1)
       ]
@@ -59,8 +59,8 @@ module _ (P Q : Datagrams) (waiting : List Packet) where
     | inr waits ↦ inl (inr (subst (λ (ps : List Packet). Among ps a d) same waits))
   ]
     where
-      packed_alone : (entries : List ℕ) → (17 ∷ 0 ∷ entries) ≡ bytes → ⊥
-      packed_alone entries at = let test : is_packed (17 ∷ 0 ∷ entries) ≡ false = ap is_packed at ∙ plain in cc
+      packed_alone : (entries : List ℕ) → (20 ∷ 0 ∷ entries) ≡ bytes → ⊥
+      packed_alone entries at = let test : is_packed (20 ∷ 0 ∷ entries) ≡ false = ap is_packed at ∙ plain in cc
 
 -- a datagram waits
 pub one_waits : (P : Datagrams) (waiting : List Packet) (to : ℕ) (bytes : List ℕ) (left : List Packet) → left ≡ waiting ++ (record { address = to; bytes = bytes }) ∷ [] → OneMore to bytes (sent_with P waiting) (sent_with P left)

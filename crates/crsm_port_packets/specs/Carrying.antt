@@ -14,8 +14,8 @@ fragments_in packets address f = (packet : List ℕ) × packets address packet �
 
 -- all fragments of one datagram, in order, are among these
 abbrev pub put_together : Fragments → Datagrams
-put_together fragments address d = (number : ℕ) × (pieces : List (List ℕ)) × (0 < length pieces) × (d ≡ concat pieces)
-    × ((i : ℕ) → i < length pieces → fragments address (record { number = number; index = i; count = length pieces; bytes = slice_index_or pieces i [] }))
+put_together fragments address d = (name : List ℕ) × (pieces : List (List ℕ)) × (0 < length pieces) × (d ≡ concat pieces)
+    × ((i : ℕ) → i < length pieces → fragments address (record { name = name; index = i; count = length pieces; bytes = slice_index_or pieces i [] }))
 
 -- one of these packets is the datagram as it is
 abbrev pub alone_in : Datagrams → Datagrams
@@ -23,7 +23,7 @@ alone_in packets address d = (is_packed d ≡ false) × packets address d
 
 -- it stands whole in one of these packets
 abbrev pub bundled_in : Datagrams → Datagrams
-bundled_in packets address d = (entries : List ℕ) × packets address (17 ∷ 0 ∷ entries) × StandsIn d entries
+bundled_in packets address d = (entries : List ℕ) × packets address (20 ∷ 0 ∷ entries) × StandsIn d entries
 
 -- the datagrams that these packets carry whole
 abbrev pub carried : Datagrams → Datagrams

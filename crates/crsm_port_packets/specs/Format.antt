@@ -1,16 +1,15 @@
 -- The format of packets: a datagram as it is, a bundle of datagrams, or a fragment of one.
 use Rattle.std.specs.Prelude.{◌≡◌, ◌++◌, ◌+◌, ◌*◌, ◌/◌, ◌%◌, ◌<◌, ℕ, List, [], ◌∷◌, length, take, drop, Bool, false, nat_eq, nat_le, Option, Some, None, if◌then◌else◌}
-use Rattle.crsm_base.specs.Reading.{u64_at}
 use Rattle.crsm_port_packets.specs.declared.format.Fragment.{Fragment}
 use Rattle.crsm_port_packets.specs.declared.format.PacketKind.{PacketKind}
 use Rattle.crsm_port_packets.specs.declared.format.PacketKind.TheVariants as kinds
 
--- the packet has the byte 17 and a kind; otherwise it is a datagram as it is
+-- the packet has the byte 20 and a kind; otherwise it is a datagram as it is
 abbrev pub is_packed : List ℕ → Bool
 is_packed [] = false
-is_packed (first ∷ rest) = nat_eq first 17
+is_packed (first ∷ rest) = nat_eq first 20
 
--- ---- bundles: the byte 17, the kind 0, and each datagram after its length
+-- ---- bundles: the byte 20, the kind 0, and each datagram after its length
 
 -- a datagram of a bundle, after its length
 abbrev pub entry : List ℕ → List ℕ
@@ -33,21 +32,21 @@ pub data StandsIn (d : List ℕ) : List ℕ → Type 0 where
 
 -- the packet is no bundle
 abbrev pub IsNoBundle : List ℕ → Type 0
-IsNoBundle packet = (entries : List ℕ) → packet ≡ 17 ∷ 0 ∷ entries → ⊥
+IsNoBundle packet = (entries : List ℕ) → packet ≡ 20 ∷ 0 ∷ entries → ⊥
 
--- ---- fragments: the byte 17, the kind 1, the datagram's number, the index, the count, and bytes
+-- ---- fragments: the byte 20, the kind 1, the 36 bytes that its datagram begins with, the index, the count, and bytes
 
 pub record FragmentFields : Type 0 where
-  pub number : ℕ
+  pub name : List ℕ
   pub index : ℕ
   pub count : ℕ
   pub bytes : List ℕ
 
 abbrev pub fields_of : Fragment → FragmentFields
-fields_of f = record { number = f.number; index = f.index; count = f.count; bytes = f.bytes.now }
+fields_of f = record { name = f.name.now; index = f.index; count = f.count; bytes = f.bytes.now }
 
 abbrev pub IsFragment : List ℕ → FragmentFields → Type 0
-IsFragment packet f = (rest : List ℕ) × (packet ≡ 17 ∷ 1 ∷ rest) × (u64_at rest ≡ Some (f.number, f.index ∷ f.count ∷ f.bytes))
+IsFragment packet f = (length f.name ≡ 36) × (packet ≡ 20 ∷ 1 ∷ f.name ++ f.index ∷ f.count ∷ f.bytes)
 
 -- the packet is no whole fragment with an index below its count
 abbrev pub IsNoFragment : List ℕ → Type 0
@@ -62,6 +61,6 @@ IsWithinCount (kinds.Fragment f) = f.index < f.count
 IsWithinCount kinds.Other = Unit {0}
 
 abbrev pub IsOfKind : List ℕ → PacketKind → Type 0
-IsOfKind packet (kinds.Bundle entries) = packet ≡ 17 ∷ 0 ∷ entries.now
+IsOfKind packet (kinds.Bundle entries) = packet ≡ 20 ∷ 0 ∷ entries.now
 IsOfKind packet (kinds.Fragment f) = IsFragment packet (fields_of f)
 IsOfKind packet kinds.Other = IsNoBundle packet × IsNoFragment packet

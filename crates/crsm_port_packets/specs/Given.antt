@@ -8,7 +8,7 @@ use Rattle.crsm_port_packets.specs.Sent.{standing_in}
 
 -- the packet is a bundle that has this datagram
 abbrev pub Holds : List ℕ → List ℕ → Type 0
-Holds packet d = (ds : List (List ℕ)) × (packet ≡ 17 ∷ 0 ∷ entries_of ds) × Contains ds d
+Holds packet d = (ds : List (List ℕ)) × (packet ≡ 20 ∷ 0 ∷ entries_of ds) × Contains ds d
 
 -- the packet goes to this address as it is, or is a datagram that stands in it
 abbrev pub IsOfPacket : ℕ → List ℕ → Packet → Type 0
@@ -23,7 +23,7 @@ pub record PacketGoes (to : ℕ) (packet : List ℕ) (old new : Meaning) : Type 
 
 -- the packet is a datagram that waits for its address, or a bundle of such
 abbrev pub IsOfWaiting : List Packet → Packet → Type 0
-IsOfWaiting waiting p = Among waiting p.address p.bytes ⊎ ((ds : List (List ℕ)) × (p.bytes ≡ 17 ∷ 0 ∷ entries_of ds) × ((d : List ℕ) → Contains ds d → Among waiting p.address d))
+IsOfWaiting waiting p = Among waiting p.address p.bytes ⊎ ((ds : List (List ℕ)) × (p.bytes ≡ 20 ∷ 0 ∷ entries_of ds) × ((d : List ℕ) → Contains ds d → Among waiting p.address d))
 
 -- all that waits for these addresses is sent, each as it is or in a bundle, and nothing else
 pub record LetsGo (addresses : List ℕ) (waiting : List Packet) (old new : Meaning) : Type 0 where
@@ -34,7 +34,7 @@ pub record LetsGo (addresses : List ℕ) (waiting : List Packet) (old new : Mean
 
 -- the packets greet these addresses
 abbrev pub AllGreet : List ℕ → List Packet → Type 0
-AllGreet addresses greetings = All (λ (p : Packet). (p.bytes ≡ 17 ∷ 0 ∷ []) × Contains addresses p.address) greetings
+AllGreet addresses greetings = All (λ (p : Packet). (p.bytes ≡ 20 ∷ 0 ∷ []) × Contains addresses p.address) greetings
 
 -- all that waits for these addresses is sent, and then they may be greeted
 pub record LetsGoAndGreets (addresses : List ℕ) (waiting : List Packet) (old new : Meaning) : Type 0 where

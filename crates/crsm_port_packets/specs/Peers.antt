@@ -13,7 +13,7 @@ IsPeer from peers = (p : Peer) × Contains peers p × (p.address ≡ from)
 abbrev pub IsSince : Option ℕ → ℕ → ℕ → Type 0
 IsSince since now span = (at : ℕ) × (since ≡ Some at) × (at ≤ now) × (now < at + span)
 
--- a packet with the byte 17 came less than three seconds ago from a peer with this address
+-- a packet with the byte 20 came less than three seconds ago from a peer with this address
 abbrev pub Speaks : ℕ → ℕ → List Peer → Type 0
 Speaks to now peers = (p : Peer) × Contains peers p × (p.address ≡ to) × IsSince p.heard_at now 3_000_000
 

@@ -40,20 +40,20 @@ Begins from entries u = (u.from ≡ from) × (left_in u ≡ entries)
 
 -- a bundle is taken apart from now on
 abbrev pub OpensBundle : ℕ → List ℕ → Received → Received → Type 0
-OpensBundle from packet old new = (entries : List ℕ) × (packet ≡ 17 ∷ 0 ∷ entries) × (Begins from entries new.unpacking ⊎ Rose old.unkept new.unkept)
+OpensBundle from packet old new = (entries : List ℕ) × (packet ≡ 20 ∷ 0 ∷ entries) × (Begins from entries new.unpacking ⊎ Rose old.unkept new.unkept)
 
--- a fragment of a datagram of at most seven is kept until the others have come
-abbrev pub OpensFragment : ℕ → List ℕ → Received → Received → Type 0
-OpensFragment from packet old new = (f : FragmentFields) × IsFragment packet f × (new.unpacking ≡ old.unpacking) × ((7 < f.count) ⊎ (KeepsFragment from f old.fragments.pieces.items new.fragments.pieces.items ⊎ Rose old.unkept new.unkept))
+-- a fragment of a datagram of at most seven, which came at this reading, is kept until the others have come
+abbrev pub OpensFragment : (from now : ℕ) → List ℕ → Received → Received → Type 0
+OpensFragment from now packet old new = (f : FragmentFields) × IsFragment packet f × (new.unpacking ≡ old.unpacking) × ((7 < f.count) ⊎ (KeepsFragment from now f old.fragments.pieces.items new.fragments.pieces.items ⊎ Rose old.unkept new.unkept))
 
 -- a packet of a peer that gives no datagram yet: a bundle, a fragment, or neither; what there is no memory for is counted
-abbrev pub IsOpened : ℕ → List ℕ → Received → Received → Type 0
-IsOpened from packet old new = OpensBundle from packet old new ⊎ (OpensFragment from packet old new ⊎ (IsNoBundle packet × IsNoFragment packet × (new ≡ old)))
+abbrev pub IsOpened : (from now : ℕ) → List ℕ → Received → Received → Type 0
+IsOpened from now packet old new = OpensBundle from packet old new ⊎ (OpensFragment from now packet old new ⊎ (IsNoBundle packet × IsNoFragment packet × (new ≡ old)))
 
 -- it is taken from those with these addresses alone
-abbrev pub IsOpenedOf : List ℕ → ℕ → List ℕ → Received → Received → Type 0
-IsOpenedOf addresses from packet old new = (Contains addresses from × IsOpened from packet old new) ⊎ ((Contains addresses from → ⊥) × (new ≡ old))
+abbrev pub IsOpenedOf : List ℕ → (from now : ℕ) → List ℕ → Received → Received → Type 0
+IsOpenedOf addresses from now packet old new = (Contains addresses from × IsOpened from now packet old new) ⊎ ((Contains addresses from → ⊥) × (new ≡ old))
 
--- a datagram that is a packet as it is goes up; other packets have the byte 17
+-- a datagram that is a packet as it is goes up; other packets have the byte 20
 abbrev pub IsAsItIs : ℕ → List ℕ → (most : ℕ) → List ℕ → Recv → Type 0
 IsAsItIs from packet most after got = ((is_packed packet ≡ false) × GoesUp from packet most after got) ⊎ (is_packed packet ≡ true)

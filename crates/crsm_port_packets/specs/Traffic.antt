@@ -24,9 +24,9 @@ sent_over may_send p = sent_with (may_send p.port) (packets_of p.waiting)
 abbrev pub LetsGoAndAsks : {P C : Type 0} → (P → Meaning) → (most : ℕ) → List ℕ → PacketsPort P C → PacketsPort P C → Result Recv Failed → Type 0
 LetsGoAndAsks meaning most after old new result =
     (between : Meaning) × LetsGo (addresses_of old.peers.items) (packets_of old.waiting) (meaning old.port) between
-    × AsksUntil (addresses_of old.peers.items) most after (record { below = between; held = old.received }) (taker_of (meaning new.port) new) result
+    × AsksUntil (addresses_of old.peers.items) old.now most after (record { below = between; held = old.received }) (taker_of (meaning new.port) new) result
 
 -- what a send leaves as it was
 abbrev pub StaysWhenSent : {P C : Type 0} → PacketsPort P C → PacketsPort P C → Type 0
 StaysWhenSent old new =
-    new ≡ record old { port = new.port; peers = new.peers; number = new.number; waiting = new.waiting; packet = new.packet; roomy = new.roomy; losses = new.losses }
+    new ≡ record old { port = new.port; peers = new.peers; waiting = new.waiting; packet = new.packet; roomy = new.roomy; losses = new.losses }

@@ -33,7 +33,7 @@ pub(crate) fn append(packet: &mut Vec<u8>, bytes: &[u8])
 /// Writes the bytes before the datagrams of a bundle, if the packet is empty. There is memory for them.
 fn begin(packet: &mut Vec<u8>)
     requires { vec_len packet.old + 2 ≤ vec_capacity packet.old }
-    ensures first { packet.old.items ≡ [] → packet.new.items ≡ 17 ∷ 0 ∷ [] }
+    ensures first { packet.old.items ≡ [] → packet.new.items ≡ 20 ∷ 0 ∷ [] }
     ensures more { (packet.old.items ≡ [] → ⊥) → packet.new.items ≡ packet.old.items }
     ensures len { vec_len packet.new ≤ vec_len packet.old + 2 }
     ensures capacity { vec_capacity packet.old ≤ vec_capacity packet.new }
@@ -77,7 +77,7 @@ fn lone(packet: &[u8]) -> Option<&[u8]>
     }
 }
 
-/// Sends a packet that has a datagram, and returns whether it went with the byte 17.
+/// Sends a packet that has a datagram, and returns whether it went with the byte 20.
 fn send_packet<P: Port>(to: u64, packet: &[u8], port: &mut P) -> bool
     requires { IsBundle packet.now }
     ensures gives { NoMore (P.gives port.old) (P.gives port.new) }
@@ -99,7 +99,7 @@ fn send_packet<P: Port>(to: u64, packet: &[u8], port: &mut P) -> bool
     }
 }
 
-/// Sends a packet if it has no room for one more datagram of this length, and returns whether it went with the byte 17.
+/// Sends a packet if it has no room for one more datagram of this length, and returns whether it went with the byte 20.
 fn make_room<P: Port>(to: u64, len: usize, packet: &mut Vec<u8>, port: &mut P) -> bool
     requires { IsBundle packet.old.items }
     ensures gives { NoMore (P.gives port.old) (P.gives port.new) }
@@ -117,7 +117,7 @@ fn make_room<P: Port>(to: u64, len: usize, packet: &mut Vec<u8>, port: &mut P) -
 }
 
 /// Sends the datagrams that wait for an address in packets of at most 1,232 bytes, and returns whether one of these went
-/// with the byte 17. A datagram that goes alone goes as it is. The buffer is for a packet and has memory for it.
+/// with the byte 20. A datagram that goes alone goes as it is. The buffer is for a packet and has memory for it.
 pub(crate) fn send_waiting<P: Port>(
     waiting: &SentPackets,
     to: u64,

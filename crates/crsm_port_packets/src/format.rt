@@ -1,18 +1,19 @@
-//! The format of packets. A packet is a plain datagram, or it has the byte 17, a kind, and:
+//! The format of packets. A packet is a plain datagram, or it has the byte 20, a kind, and:
 //!
 //! - kind 0: a bundle. Each of its datagrams follows its length, a u16. A bundle without a datagram is a greeting.
-//! - kind 1: a fragment of a datagram: the datagram's number, a u64; the index of the fragment and their count, a u8
-//!   each; and the fragment's bytes.
+//! - kind 1: a fragment of a datagram: the datagram's name, which is its first 36 bytes; the index of the fragment and
+//!   their count, a u8 each; and the fragment's bytes.
+//!
+//! A datagram that is cut is a part of a control message. Its name has the mark of the cluster, the sender, the receiver,
+//! the sender's boot, which is counted on its disk, the message's number and the part's index. So no clock is asked for
+//! what tells datagrams apart.
 
-ghost use Rattle.std.specs.Prelude.{◌≡◌, ◌<◌, ◌+◌, ◌++◌, ◌∷◌, ℕ, List, [], IfSome, None, Some, drop, length};
-ghost use Rattle.crsm_base.specs.Reading.{u64_at};
-ghost use Rattle.crsm_base.specs.Spelling.{u64_bytes};
+ghost use Rattle.std.specs.Prelude.{◌≡◌, ◌<◌, ◌≤◌, ◌+◌, ◌++◌, ◌∷◌, ℕ, List, [], IfSome, None, Some, drop, length};
+ghost use Rattle.crsm_port_packets.specs.Cutting.{name_of};
 ghost use Rattle.crsm_port_packets.specs.Format.{IsFragment, IsNoBundle, IsNoFragment, IsOfKind, IsWithinCount, entry_at, fields_of, is_packed};
 
-use crsm_text_fields::take_u64;
-
 /// The first byte of a packet that is no plain datagram. No datagram begins with it.
-const PACKET_BYTE: u8 = 17;
+const PACKET_BYTE: u8 = 20;
 
 const BUNDLE: u8 = 0;
 
@@ -24,8 +25,14 @@ pub(crate) const BUNDLE_HEAD: [u8; 2] = [PACKET_BYTE, BUNDLE];
 /// Length of the field before each datagram of a bundle, in bytes.
 pub(crate) const LENGTH_BYTES: usize = 2;
 
-/// Length of the fields before a fragment's bytes: the byte 17, the kind, the number, the index and the count.
-pub(crate) const FRAGMENT_HEAD: usize = 12;
+/// The bytes before the name of a fragment.
+pub(crate) const FRAGMENT_START: [u8; 2] = [PACKET_BYTE, FRAGMENT];
+
+/// Length of the name of a datagram, in bytes.
+pub(crate) const NAME_BYTES: usize = 36;
+
+/// Length of the fields before a fragment's bytes: the byte 20, the kind, the name, the index and the count.
+const FRAGMENT_HEAD: usize = NAME_BYTES + 4;
 
 /// Maximum length of a bundle or a fragment in bytes. Links of 1,280 bytes carry it with the headers of IP and UDP.
 pub(crate) const MOST_BYTES: usize = 1_232;
@@ -39,8 +46,8 @@ pub(crate) const MOST_FRAGMENTS: usize = 7;
 /// A fragment of a datagram.
 #[derive(Clone, Copy)]
 pub(crate) struct Fragment<'a> {
-    /// The number of the datagram among those from its sender.
-    pub(crate) number: u64,
+    /// The name of the datagram: its first bytes.
+    pub(crate) name: &'a [u8; NAME_BYTES],
     /// The index of the fragment, from 0, and the number of fragments of the datagram.
     pub(crate) index: u8,
     pub(crate) count: u8,
@@ -57,7 +64,7 @@ pub(crate) enum PacketKind<'a> {
     Other,
 }
 
-/// Returns whether a packet has the byte 17 and a kind; otherwise it is a datagram as it is.
+/// Returns whether a packet has the byte 20 and a kind; otherwise it is a datagram as it is.
 pub(crate) fn is_packed(packet: &[u8]) -> bool
     ensures { result ≡ is_packed packet.now }
 {
@@ -83,7 +90,7 @@ pub(crate) fn kind_of(packet: &[u8]) -> PacketKind<'_>
 
 /// Returns the datagrams of a bundle, each after its length, if the packet is one.
 fn bundle_in(packet: &[u8]) -> Option<&[u8]>
-    ensures some { IfSome result (λ entries. packet.now ≡ 17 ∷ 0 ∷ entries.now) }
+    ensures some { IfSome result (λ entries. packet.now ≡ 20 ∷ 0 ∷ entries.now) }
     ensures none { result ≡ None → IsNoBundle packet.now }
 {
     match packet {
@@ -106,28 +113,41 @@ fn fragment_in(packet: &[u8]) -> Option<Fragment<'_>>
 
 /// Parses a fragment after its kind. `None` if a field is missing, or if its index is not below its count.
 fn fragment_of(bytes: &[u8]) -> Option<Fragment<'_>>
-    ensures fields { IfSome result (λ f. u64_at bytes.now ≡ Some (f.number, f.index ∷ f.count ∷ f.bytes.now)) }
+    ensures name { IfSome result (λ f. length f.name.now ≡ 36) }
+    ensures fields { IfSome result (λ f. bytes.now ≡ f.name.now ++ f.index ∷ f.count ∷ f.bytes.now) }
     ensures within { IfSome result (λ f. f.index < f.count) }
-    ensures none { result ≡ None → (number index count : ℕ) (rest : List ℕ) → u64_at bytes.now ≡ Some (number, index ∷ count ∷ rest) → index < count → ⊥ }
+    ensures none { result ≡ None → (name : List ℕ) (index count : ℕ) (rest : List ℕ) → length name ≡ 36 → bytes.now ≡ name ++ index ∷ count ∷ rest → index < count → ⊥ }
 {
-    match take_u64(bytes) {
-        Some((number, [index, count, bytes @ ..])) if index < count => Some(Fragment {
-            number,
-            index: *index,
-            count: *count,
-            bytes,
-        }),
+    let (name, rest) = bytes.split_first_chunk::<NAME_BYTES>()?;
+    let (index, count, bytes) = index_in(rest)?;
+    Some(Fragment {
+        name,
+        index,
+        count,
+        bytes,
+    })
+}
+
+/// Parses the index and the count of a fragment, and returns them with the bytes after them. `None` if one is missing, or
+/// if the index is not below the count.
+fn index_in(bytes: &[u8]) -> Option<(u8, u8, &[u8])>
+    ensures fields { IfSome result (λ x. bytes.now ≡ x.0 ∷ x.1 ∷ x.2.now) }
+    ensures within { IfSome result (λ x. x.0 < x.1) }
+    ensures none { result ≡ None → (index count : ℕ) (rest : List ℕ) → bytes.now ≡ index ∷ count ∷ rest → index < count → ⊥ }
+{
+    match bytes {
+        [index, count, rest @ ..] if index < count => Some((*index, *count, rest)),
         _ => None,
     }
 }
 
-/// Encodes the fields before a fragment's bytes.
-#[tactic(auto, unfolding(crsm_base::specs::Spelling::u64_bytes))]
-pub(crate) fn fragment_head(number: u64, index: u8, count: u8) -> [u8; FRAGMENT_HEAD]
-    ensures { result ≡ 17 ∷ 1 ∷ u64_bytes number ++ index ∷ count ∷ [] }
+/// Returns the name of a datagram, which all its fragments have.
+pub(crate) fn name_of(datagram: &[u8]) -> &[u8]
+    requires { 36 ≤ length datagram.now }
+    ensures name { result.now ≡ name_of datagram.now }
+    ensures len { length result.now ≡ 36 }
 {
-    let [a, b, c, d, e, f, g, h] = number.to_be_bytes();
-    [PACKET_BYTE, FRAGMENT, a, b, c, d, e, f, g, h, index, count]
+    &datagram[..NAME_BYTES]
 }
 
 /// Splits the entries of a bundle into the first datagram and the entries after it. `None` if there is no whole one.

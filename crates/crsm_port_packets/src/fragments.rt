@@ -1,22 +1,28 @@
 //! The fragments that have arrived lately.
 
+ghost use Rattle.std.specs.List.{filter};
 ghost use Rattle.std.specs.Prelude.{◌≡◌, ◌⊎◌, ◌<◌, ◌≤◌, ℕ, List, [], false, true, None, Ok, IfSome, IsTrue, OnOk};
 ghost use Rattle.crsm_port_packets.specs.Carrying.{put_together};
 ghost use Rattle.crsm_port_packets.specs.Format.{fields_of};
-ghost use Rattle.crsm_port_packets.specs.Kept.{Forgets, GainsOnly, IsMissing, KeepsFragment, StaysBut, arrived, crowd, fragment_of, kept_in};
+ghost use Rattle.crsm_port_packets.specs.Kept.{Forgets, GainsOnly, IsHeld, IsMissing, KeepsFragment, StaysBut, arrived, crowd, fragment_of, is_recent, kept_in};
 
-use crate::format::{Fragment, MOST_FRAGMENTS};
+use crate::format::{Fragment, MOST_FRAGMENTS, NAME_BYTES};
 use crsm_base::NoMemory;
 use std::alloc::Global;
 
 /// Maximum number of fragments that are kept from one sender: those of four datagrams.
 const MOST_KEPT: usize = 4 * MOST_FRAGMENTS;
 
-/// A fragment, and the address that it came from.
+/// Time in microseconds for which a fragment is kept. A datagram's fragments are sent at once, so where one has not come
+/// by then it was lost. Where a clock keeps one longer it does no harm, since its name says which datagram it is of.
+const KEPT_FOR: u64 = 10_000_000;
+
+/// A fragment, the address that it came from, and the reading at which it came.
 #[derive(Drop)]
 pub(crate) struct Piece {
     pub(crate) from: u64,
-    pub(crate) number: u64,
+    pub(crate) at: u64,
+    pub(crate) name: [u8; NAME_BYTES],
     pub(crate) index: u8,
     pub(crate) count: u8,
     pub(crate) bytes: Vec<u8>,
@@ -25,13 +31,20 @@ pub(crate) struct Piece {
 impl Piece {
     /// Returns whether this is the fragment at an index of the datagram of another, from the same address.
     fn is_at(&self, index: u8, from: u64, fragment: &Fragment<'_>) -> bool
-        ensures no { result ≡ false → (bytes : List ℕ) → arrived self.now ≡ record { from = from; fragment = fragment_of (fields_of fragment.now) index bytes } → ⊥ }
-        ensures yes { IsTrue result → arrived self.now ≡ record { from = from; fragment = record (fields_of fragment.now) { index = index; bytes = self.now.bytes.items } } }
+        ensures no { result ≡ false → (at : ℕ) (bytes : List ℕ) → arrived self.now ≡ record { from = from; at = at; fragment = fragment_of (fields_of fragment.now) index bytes } → ⊥ }
+        ensures yes { IsTrue result → arrived self.now ≡ record { from = from; at = self.now.at; fragment = record (fields_of fragment.now) { index = index; bytes = self.now.bytes.items } } }
     {
         self.index == index
-            && self.number == fragment.number
+            && self.name == *fragment.name
             && self.count == fragment.count
             && self.from == from
+    }
+
+    /// Returns whether the fragment came less than ten seconds before this reading, and the clock did not go back.
+    fn is_recent(&self, now: u64) -> bool
+        ensures { result ≡ is_recent now self.now }
+    {
+        self.at <= now && now - self.at < KEPT_FOR
     }
 }
 
@@ -54,18 +67,27 @@ impl Fragments {
         }
     }
 
-    /// Keeps a fragment. If all fragments of its datagram have arrived, the datagram is written to `whole`, which is
-    /// empty, and `true` is returned. `NoMemory` if memory runs out; the datagram is then lost.
+    /// Lets go of the fragments that came ten seconds before this reading or earlier, or at a reading after it.
+    pub(crate) fn forget_old(&mut self, now: u64)
+        ensures kept { self.new.pieces.items ≡ filter (is_recent now) self.old.pieces.items }
+    {
+        self.pieces.retain(|piece| piece.is_recent(now));
+    }
+
+    /// Keeps a fragment that came at this reading. If all fragments of its datagram have arrived, the datagram is
+    /// written to `whole`, which is empty, and `true` is returned. `NoMemory` if memory runs out; the datagram is then
+    /// lost.
     pub(crate) fn add(
         &mut self,
         from: u64,
+        now: u64,
         fragment: &Fragment<'_>,
         whole: &mut Vec<u8>,
     ) -> Result<bool, NoMemory>
         requires whole { whole.old.items ≡ [] }
         requires within { fragment.now.index < fragment.now.count }
-        ensures kept { GainsOnly (record { from = from; fragment = fields_of fragment.now }) self.old.pieces.items self.new.pieces.items }
-        ensures waits { result ≡ Ok false → (7 < fragment.now.count) ⊎ KeepsFragment from (fields_of fragment.now) self.old.pieces.items self.new.pieces.items }
+        ensures kept { GainsOnly (record { from = from; at = now; fragment = fields_of fragment.now }) self.old.pieces.items self.new.pieces.items }
+        ensures waits { result ≡ Ok false → (7 < fragment.now.count) ⊎ KeepsFragment from now (fields_of fragment.now) self.old.pieces.items self.new.pieces.items }
         ensures few { (address : ℕ) → crowd address self.old.pieces.items ≤ 28 → crowd address self.new.pieces.items ≤ 28 }
         ensures whole { result ≡ Ok true → put_together (kept_in self.new.pieces.items) from whole.new.items }
     {
@@ -75,7 +97,8 @@ impl Fragments {
         let bytes = Vec::from_slice(self.alloc, fragment.bytes)?;
         self.keep(Piece {
             from,
-            number: fragment.number,
+            at: now,
+            name: *fragment.name,
             index: fragment.index,
             count: fragment.count,
             bytes,
@@ -86,7 +109,7 @@ impl Fragments {
     /// Keeps a fragment. `NoMemory` if memory runs out.
     fn keep(&mut self, piece: Piece) -> Result<(), NoMemory>
         ensures only { GainsOnly (arrived piece) self.old.pieces.items self.new.pieces.items }
-        ensures kept { OnOk result (kept_in self.new.pieces.items piece.from (arrived piece).fragment) }
+        ensures kept { OnOk result (IsHeld self.new.pieces.items (arrived piece)) }
         ensures stays { StaysBut piece.from self.old.pieces.items self.new.pieces.items }
         ensures few { (address : ℕ) → crowd address self.old.pieces.items ≤ 28 → crowd address self.new.pieces.items ≤ 28 }
     {

@@ -1,24 +1,26 @@
 //! `PacketsPort`: packets of a size that networks carry whole.
 
-ghost use Rattle.std.specs.Prelude.{◌≡◌, ◌≤◌, ◌⊎◌, List, [], Contains, None, false, true, take, IfOk, IfSome, OnErr, OnOk, length, vec_capacity};
+ghost use Rattle.std.specs.List.{filter};
+ghost use Rattle.std.specs.Prelude.{◌≡◌, ◌<◌, ◌≤◌, ◌⊎◌, List, [], Contains, None, false, true, take, IfOk, IfSome, OnErr, OnOk, length, vec_capacity};
 ghost use Rattle.crsm_clock.specs.Readings.{Gives};
 ghost use Rattle.crsm_port.specs.Meaning.{CountsEmpty, IsWithin, Packet, Receives, Reserves, Sends, SendsAll};
-ghost use Rattle.crsm_port.specs.Passing.{HandsUpBy, IsOf, NoMore, OneMore, Only, PassesOnBy, RestsBy, either};
+ghost use Rattle.crsm_port.specs.Passing.{Among, HandsUpBy, IsOf, NoMore, OneMore, Only, PassesOnBy, RestsBy, either};
 ghost use Rattle.crsm_port.specs.Sent.{packets_of};
 ghost use Rattle.crsm_port.specs.Unknown.{unknown};
 ghost use Rattle.crsm_port_faults.specs.Counts.{Rose};
 ghost use Rattle.crsm_port_packets.specs.Carrying.{carried, put_together};
-ghost use Rattle.crsm_port_packets.specs.Cutting.{AreApart, AreOfCuts, CutDatagram, cut_in, fragments_from};
+ghost use Rattle.crsm_port_packets.specs.Cutting.{AreApart, AreOfCuts, SendsCut, fragments_of, name_of};
 ghost use Rattle.crsm_port_packets.specs.Format.{is_packed};
 ghost use Rattle.crsm_port_packets.specs.Given.{AllGreet, LetsGo, LetsGoAndGreets, MayLetGo};
 ghost use Rattle.crsm_port_packets.specs.Held.{Opens, fragments_with, unpacked};
+ghost use Rattle.crsm_port_packets.specs.Kept.{is_recent};
 ghost use Rattle.crsm_port_packets.specs.Peers.{IsPeer, SamePeers, Speaks, addresses_of};
 ghost use Rattle.crsm_port_packets.specs.Receiving.{IsAsItIs, IsDatagram, IsOpenedOf, NoneLeft, left_in};
 ghost use Rattle.crsm_port_packets.specs.Sent.{sent_with};
 
 use crate::bundle::send_waiting;
 use crate::cutting::send_fragments;
-use crate::format::{BUNDLE_HEAD, LENGTH_BYTES, MOST_BYTES, is_packed};
+use crate::format::{BUNDLE_HEAD, LENGTH_BYTES, MOST_BYTES, is_packed, name_of};
 use crate::peer::Peer;
 use crate::received::Received;
 use crate::unpacking::hand_up;
@@ -41,9 +43,9 @@ const MOST_WAITING: usize = 4_096;
 const MOST_EMPTY: usize = 64;
 
 /// A port over a port on which a packet is not longer than 1,232 bytes. Datagrams to one address wait for the next
-/// `flush` or receive, and go out as one packet; a longer datagram goes out as up to 7 fragments, and is handed up once
-/// all have arrived. All this is for peers alone, and for a peer from which such a packet came within three seconds;
-/// each peer is sent one every second. To any other address each datagram goes out as it is.
+/// `flush` or receive, and go out as one packet; a longer datagram goes out as up to 7 fragments, and is handed up if all
+/// arrive within ten seconds. All this is for peers alone, and for a peer from which such a packet came within three
+/// seconds; each peer is sent one every second. To any other address each datagram goes out as it is.
 ///
 /// A datagram that waits is answered as sent. Each call says what goes up, what goes out and what waits.
 #[derive(Drop)]
@@ -53,8 +55,6 @@ pub struct PacketsPort<P, C> {
     // The clock's reading before the next sends, in microseconds.
     now: u64,
     peers: Vec<Peer>,
-    // The number of the next datagram in fragments, which no earlier process of the node has used.
-    number: u64,
     // A received packet.
     room: Vec<u8>,
     // The datagrams that wait for others to their address.
@@ -93,7 +93,6 @@ impl<P: Drop, C: Drop> PacketsPort<P, C> {
             clock,
             now: 0,
             peers: known,
-            number: 0,
             room: Vec::from_elem(alloc, 0u8, MOST_RECEIVED)?,
             waiting: SentPackets::new(alloc),
             packet: Vec::with_capacity(alloc, MOST_BUFFERED)?,
@@ -107,11 +106,11 @@ impl<P: Drop, C: Drop> PacketsPort<P, C> {
 }
 
 impl<P: Port, C> PacketsPort<P, C> {
-    /// States that where each fragment that came is of a datagram that was cut, and no two of these came from one
-    /// address under one number, nothing but these is put together. It runs no code.
+    /// States that where each fragment that came is of a datagram that was cut, and no two of these from one address
+    /// begin with the same 36 bytes, nothing but these is put together. It runs no code.
     pub fn puts_together_what_was_cut(&self)
-        ensures { (cuts : List CutDatagram) → AreApart cuts → AreOfCuts cuts (fragments_with (P.gives self.entry.now.port) self.entry.now.received)
-            → NoMore (cut_in cuts) (put_together (fragments_with (P.gives self.entry.now.port) self.entry.now.received)) }
+        ensures { (cuts : List Packet) → AreApart (Among cuts) → AreOfCuts (Among cuts) (fragments_with (P.gives self.entry.now.port) self.entry.now.received)
+            → NoMore (Among cuts) (put_together (fragments_with (P.gives self.entry.now.port) self.entry.now.received)) }
     {}
 }
 
@@ -123,7 +122,7 @@ fn front(room: &[u8], len: usize) -> &[u8]
     &room[..len]
 }
 
-/// Records that a packet with the byte 17 came from this address, and returns whether it is a peer's.
+/// Records that a packet with the byte 20 came from this address, and returns whether it is a peer's.
 fn note_heard(peers: &mut Vec<Peer>, from: u64, now: u64) -> bool
     ensures peer { result ≡ true → Contains (addresses_of peers.old.items) from }
     ensures stranger { result ≡ false → IsPeer from peers.old.items → ⊥ }
@@ -162,7 +161,7 @@ fn send_to_each<P: Port>(
     }
 }
 
-/// Sends a greeting to each peer to which no packet with the byte 17 went for a second.
+/// Sends a greeting to each peer to which no packet with the byte 20 went for a second.
 fn greet_each<P: Port>(peers: &mut [Peer], now: u64, port: &mut P)
     ensures gives { NoMore (P.gives port.old) (P.gives port.new) }
     ensures sends { NoMore (carried (P.may_send port.old)) (carried (P.may_send port.new)) }
@@ -176,7 +175,7 @@ fn greet_each<P: Port>(peers: &mut [Peer], now: u64, port: &mut P)
 
 impl<P: Port, C: Clock> PacketsPort<P, C> {
     ghost use Rattle.crsm_port_packets.specs.Asking.{Asks, AsksUntil, taker_of};
-    ghost use Rattle.crsm_port_packets.specs.Sending.{IsKept, IsLostBelow, IsPassedOn, IsRefused, SendsCutFrom, sender_of};
+    ghost use Rattle.crsm_port_packets.specs.Sending.{IsKept, IsLostBelow, IsPassedOn, IsRefused, sender_of};
 
     /// Sends the datagrams that wait.
     fn let_go(&mut self)
@@ -210,7 +209,7 @@ impl<P: Port, C: Clock> PacketsPort<P, C> {
         ensures sends { NoMore (P.may_send self.old.port) (P.may_send self.new.port) }
         ensures waiting { self.new.waiting ≡ self.old.waiting }
         ensures same { self.new ≡ record self.old { port = self.new.port; peers = self.new.peers; room = self.new.room; received = self.new.received } }
-        ensures asks { AsksUntil (addresses_of self.old.peers.items) (length buf.old) buf.new (taker_of (P.meaning self.old.port) self.old) (taker_of (P.meaning self.new.port) self.new) result }
+        ensures asks { AsksUntil (addresses_of self.old.peers.items) self.old.now (length buf.old) buf.new (taker_of (P.meaning self.old.port) self.old) (taker_of (P.meaning self.new.port) self.new) result }
         ensures addresses { addresses_of self.new.peers.items ≡ addresses_of self.old.peers.items }
     {
         for _ in 0..MOST_EMPTY {
@@ -229,7 +228,7 @@ impl<P: Port, C: Clock> PacketsPort<P, C> {
         ensures rest { NoMore (unpacked (P.gives self.old.port) self.old.received) (unpacked (P.gives self.new.port) self.new.received) }
         ensures sends { NoMore (P.may_send self.old.port) (P.may_send self.new.port) }
         ensures same { self.new ≡ record self.old { port = self.new.port; peers = self.new.peers; room = self.new.room; received = self.new.received } }
-        ensures asks { Asks (addresses_of self.old.peers.items) (length buf.old) buf.new (taker_of (P.meaning self.old.port) self.old) (taker_of (P.meaning self.new.port) self.new) result }
+        ensures asks { Asks (addresses_of self.old.peers.items) self.old.now (length buf.old) buf.new (taker_of (P.meaning self.old.port) self.old) (taker_of (P.meaning self.new.port) self.new) result }
         ensures addresses { addresses_of self.new.peers.items ≡ addresses_of self.old.peers.items }
     {
         match self.received.next(buf) {
@@ -246,7 +245,7 @@ impl<P: Port, C: Clock> PacketsPort<P, C> {
         ensures rest { NoMore (unpacked (P.gives self.old.port) self.old.received) (unpacked (P.gives self.new.port) self.new.received) }
         ensures sends { NoMore (P.may_send self.old.port) (P.may_send self.new.port) }
         ensures same { self.new ≡ record self.old { port = self.new.port; peers = self.new.peers; room = self.new.room; received = self.new.received } }
-        ensures asks { Asks (addresses_of self.old.peers.items) (length buf.old) buf.new (taker_of (P.meaning self.old.port) self.old) (taker_of (P.meaning self.new.port) self.new) result }
+        ensures asks { Asks (addresses_of self.old.peers.items) self.old.now (length buf.old) buf.new (taker_of (P.meaning self.old.port) self.old) (taker_of (P.meaning self.new.port) self.new) result }
         ensures addresses { addresses_of self.new.peers.items ≡ addresses_of self.old.peers.items }
     {
         match self.recv_below()? {
@@ -302,7 +301,7 @@ impl<P: Port, C: Clock> PacketsPort<P, C> {
     fn open(&mut self, from: u64, len: usize, buf: &mut [u8]) -> Option<Recv>
         requires { len ≤ length self.old.room.items }
         ensures packed { result ≡ None → is_packed (take len self.old.room.items) ≡ true }
-        ensures opened { result ≡ None → IsOpenedOf (addresses_of self.old.peers.items) from (take len self.old.room.items) self.old.received self.new.received }
+        ensures opened { result ≡ None → IsOpenedOf (addresses_of self.old.peers.items) from self.old.now (take len self.old.room.items) self.old.received self.new.received }
         ensures some { IfSome result IsDatagram }
         ensures goes { IfSome result (IsAsItIs from (take len self.old.room.items) (length buf.old) buf.new) }
         ensures addresses { addresses_of self.new.peers.items ≡ addresses_of self.old.peers.items }
@@ -319,10 +318,10 @@ impl<P: Port, C: Clock> PacketsPort<P, C> {
         if !note_heard(&mut self.peers, from, self.now) {
             return None;
         }
-        self.received.take(from, packet, buf)
+        self.received.take(from, self.now, packet, buf)
     }
 
-    /// Returns whether the receiver reads packets with the byte 17.
+    /// Returns whether the receiver reads packets with the byte 20.
     fn speaks(&self, to: u64) -> bool
         ensures { result ≡ true → Speaks to self.entry.now.now self.entry.now.peers.items }
     {
@@ -331,16 +330,15 @@ impl<P: Port, C: Clock> PacketsPort<P, C> {
             .any(|peer| peer.address == to && peer.speaks(self.now))
     }
 
-    /// Sends a datagram, or lets it wait for others to its address. No datagram begins with the byte 17.
+    /// Sends a datagram, or lets it wait for others to its address. No datagram begins with the byte 20.
     fn pass_on(&mut self, to: u64, bytes: &[u8]) -> Result<(), Failed>
         ensures gives { NoMore (P.gives self.old.port) (P.gives self.new.port) }
         ensures sends { OneMore to bytes.now (sent_with (P.may_send self.old.port) (packets_of self.old.waiting)) (sent_with (P.may_send self.new.port) (packets_of self.new.waiting)) }
         ensures received { self.new.received ≡ self.old.received }
-        ensures same { self.new ≡ record self.old { port = self.new.port; peers = self.new.peers; number = self.new.number; waiting = self.new.waiting; packet = self.new.packet; roomy = self.new.roomy } }
+        ensures same { self.new ≡ record self.old { port = self.new.port; peers = self.new.peers; waiting = self.new.waiting; packet = self.new.packet; roomy = self.new.roomy } }
         ensures goes { OnOk result (IsPassedOn to bytes.now (sender_of (P.meaning self.old.port) self.old) (sender_of (P.meaning self.new.port) self.new)) }
         ensures refused { OnErr result (IsRefused bytes.now (sender_of (P.meaning self.old.port) self.old) (sender_of (P.meaning self.new.port) self.new)) }
         ensures peers { SamePeers self.old.peers.items self.new.peers.items }
-        ensures numbers { self.old.number ≤ self.new.number }
     {
         if is_packed(bytes) {
             return Err(Failed);
@@ -384,20 +382,18 @@ impl<P: Port, C: Clock> PacketsPort<P, C> {
         }
     }
 
-    /// Sends a datagram as fragments, under a number that no other has. `Failed` if one of them was lost, memory runs
-    /// out, or there are no more numbers.
+    /// Sends a datagram of more than 1,232 bytes as fragments, under its name. `Failed` if it is too long, or one of them
+    /// was lost.
     fn send_fragments(&mut self, to: u64, bytes: &[u8]) -> Result<(), Failed>
-        ensures goes { OnOk result (SendsCutFrom to bytes.now (sender_of (P.meaning self.old.port) self.old) (sender_of (P.meaning self.new.port) self.new)) }
+        requires { 1_232 < length bytes.now }
+        ensures goes { OnOk result (SendsCut to bytes.now (name_of bytes.now) (P.meaning self.old.port) (P.meaning self.new.port)) }
         ensures refused { OnErr result (IsRefused bytes.now (sender_of (P.meaning self.old.port) self.old) (sender_of (P.meaning self.new.port) self.new)) }
-        ensures numbers { self.old.number ≤ self.new.number }
         ensures gives { NoMore (P.gives self.old.port) (P.gives self.new.port) }
-        ensures sends { NoMore (either (P.may_send self.old.port) (fragments_from to bytes.now self.old.number self.new.number)) (P.may_send self.new.port) }
+        ensures sends { NoMore (either (P.may_send self.old.port) (fragments_of to bytes.now (name_of bytes.now))) (P.may_send self.new.port) }
         ensures carries { NoMore (carried (P.may_send self.old.port)) (carried (P.may_send self.new.port)) }
-        ensures same { self.new ≡ record self.old { port = self.new.port; number = self.new.number; packet = self.new.packet; roomy = self.new.roomy } }
+        ensures same { self.new ≡ record self.old { port = self.new.port; packet = self.new.packet; roomy = self.new.roomy } }
     {
-        let number = self.number.max(self.now);
-        self.number = number.checked_add(1).ok_or(Failed)?;
-        send_fragments(to, bytes, number, &mut self.packet, &mut self.port)
+        send_fragments(to, bytes, name_of(bytes), &mut self.packet, &mut self.port)
     }
 }
 
@@ -431,7 +427,6 @@ impl<P: Port, C: Clock> Port for PacketsPort<P, C> {
         ensures goes { OnOk result (IsPassedOn to bytes.now (sender_of (P.meaning self.old.port) self.old) (sender_of (P.meaning self.new.port) self.new)) }
         ensures refused { OnErr result (IsRefused bytes.now (sender_of (P.meaning self.old.port) self.old) (sender_of (P.meaning self.new.port) self.new)) }
         ensures peers { SamePeers self.old.peers.items self.new.peers.items }
-        ensures numbers { self.old.number ≤ self.new.number }
         ensures stays { StaysWhenSent self.old self.new }
     {
         match self.pass_on(to, bytes) {
@@ -448,9 +443,12 @@ impl<P: Port, C: Clock> Port for PacketsPort<P, C> {
         ensures rests { RestsBy (given_over P.gives) (sent_over P.may_send) self.old self.new }
         ensures below { Reserves sends bytes (P.meaning self.old.port) (P.meaning self.new.port) result }
         ensures reading { Gives (C.readings self.old.clock) (C.readings self.new.clock) self.new.now }
-        ensures stays { self.new ≡ record self.old { port = self.new.port; clock = self.new.clock; now = self.new.now } }
+        ensures fragments { self.new.received.fragments.pieces.items ≡ filter (is_recent self.new.now) self.old.received.fragments.pieces.items }
+        ensures received { self.new.received ≡ record self.old.received { fragments = self.new.received.fragments } }
+        ensures stays { self.new ≡ record self.old { port = self.new.port; clock = self.new.clock; now = self.new.now; received = self.new.received } }
     {
         self.now = self.clock.now();
+        self.received.forget_old(self.now);
         self.port.reserve(sends, bytes)
     }
 

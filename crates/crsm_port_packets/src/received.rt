@@ -1,5 +1,6 @@
 //! What was received and is not handed up yet.
 
+ghost use Rattle.std.specs.List.{filter};
 ghost use Rattle.std.specs.Prelude.{◌≡◌, ◌⊎◌, [], IfOk, IfSome, None, length};
 ghost use Rattle.crsm_port.specs.Meaning.{IsWithin};
 ghost use Rattle.crsm_port.specs.Passing.{Cut, IsOf, NoMore, Only};
@@ -7,6 +8,7 @@ ghost use Rattle.crsm_port_faults.specs.Counts.{Rose};
 ghost use Rattle.crsm_port_packets.specs.Carrying.{put_together};
 ghost use Rattle.crsm_port_packets.specs.Format.{StandsIn};
 ghost use Rattle.crsm_port_packets.specs.Held.{Opens, fragments_with};
+ghost use Rattle.crsm_port_packets.specs.Kept.{is_recent};
 ghost use Rattle.crsm_port_packets.specs.Receiving.{Begins, IsDatagram, IsOpened, NoneLeft, TakesNext, left_in};
 ghost use Rattle.crsm_port_packets.specs.Waiting.{waiting_in};
 
@@ -67,15 +69,29 @@ impl Received {
         }
     }
 
-    /// Takes a packet that is no plain datagram, and returns its datagram, cut to the buffer, if it was the last
-    /// fragment of one. The datagrams of a bundle are returned by `next`. If memory runs out the packet is lost, as any
-    /// may be.
-    pub(crate) fn take(&mut self, from: u64, packet: &[u8], buf: &mut [u8]) -> Option<Recv>
+    /// Lets go of the fragments that came ten seconds before this reading or earlier, or at a reading after it.
+    pub(crate) fn forget_old(&mut self, now: u64)
+        ensures kept { self.new.fragments.pieces.items ≡ filter (is_recent now) self.old.fragments.pieces.items }
+        ensures same { self.new ≡ record self.old { fragments = self.new.fragments } }
+    {
+        self.fragments.forget_old(now);
+    }
+
+    /// Takes a packet that came at this reading and is no plain datagram, and returns its datagram, cut to the buffer,
+    /// if it was the last fragment of one. The datagrams of a bundle are returned by `next`. If memory runs out the
+    /// packet is lost, as any may be.
+    pub(crate) fn take(
+        &mut self,
+        from: u64,
+        now: u64,
+        packet: &[u8],
+        buf: &mut [u8],
+    ) -> Option<Recv>
         ensures within { IfSome result (IsWithin (length buf.old)) }
         ensures some { IfSome result IsDatagram }
         ensures whole { IfSome result (IsOf (Cut (put_together (fragments_with (Only from packet.now) self.old))) buf.new) }
         ensures opens { Opens from packet.now self.old self.new }
-        ensures opened { result ≡ None → IsOpened from packet.now self.old self.new }
+        ensures opened { result ≡ None → IsOpened from now packet.now self.old self.new }
     {
         match kind_of(packet) {
             PacketKind::Bundle(entries) => {
@@ -84,7 +100,7 @@ impl Received {
             }
             PacketKind::Fragment(fragment) => {
                 self.whole.clear();
-                match self.fragments.add(from, &fragment, &mut self.whole) {
+                match self.fragments.add(from, now, &fragment, &mut self.whole) {
                     Ok(true) => Some(hand_up(from, self.whole.as_slice(), buf)),
                     Ok(false) => None,
                     Err(NoMemory) => {

@@ -6,5 +6,5 @@ pub returns-clause-bytes : goal.returns-clause-bytes
 returns-clause-bytes c =
     let bytes = c.args.bytes.now in
     let start = c.min-start.result in
-    let len : c.min.result ≡ min 1220 (length bytes - start) = omega (arith, c.min.ensures, length-drop start bytes, length-take (length bytes - start) (drop start bytes)) in
-    piece bytes (c.args.index * 1220) start c.min.result c.min-start.ensures len
+    let len : c.min.result ≡ min 1192 (length bytes - start) = omega (arith, c.min.ensures, length-drop start bytes, length-take (length bytes - start) (drop start bytes)) in
+    piece bytes (c.args.index * 1192) start c.min.result c.min-start.ensures len

@@ -27,9 +27,9 @@ returns-clause-together c = λ _.
     let kept = c.args.self.now.pieces.items in
     let count : c.args.fragment.now.count ≡ length before.0 = omega (arith, before.1) in
     let some : 0 < c.args.fragment.now.count = omega (arith, c.requires.within) in (
-      c.args.fragment.now.number,
+      c.args.fragment.now.name.now,
       before.0,
       omega (arith, some, count),
       before.2,
-      λ i lt. subst (λ (n : ℕ). kept_in kept c.args.from (record { number = c.args.fragment.now.number; index = i; count = n; bytes = slice_index_or before.0 i [] })) count (before.3 i lt),
+      λ i lt. subst (λ (n : ℕ). kept_in kept c.args.from (record { name = c.args.fragment.now.name.now; index = i; count = n; bytes = slice_index_or before.0 i [] })) count (before.3 i lt),
     )

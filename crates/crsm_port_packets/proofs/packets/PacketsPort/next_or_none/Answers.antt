@@ -35,7 +35,7 @@ pub returns-in-Some-clause-asks : goal.returns-in-Some-clause-asks
 returns-in-Some-clause-asks g c =
     let p = c.args.self.now in
     let m = g.P.Port.meaning p.port in
-    bundle_asks (addresses_of p.peers.items) (length c.args.buf.now) c.next.new.buf (record { below = m; held = p.received }) (record { below = m; held = c.next.new.self }) c.in-Some.got refl c.in-Some.ensures.some c.in-Some.ensures.next
+    bundle_asks (addresses_of p.peers.items) p.now (length c.args.buf.now) c.next.new.buf (record { below = m; held = p.received }) (record { below = m; held = c.next.new.self }) c.in-Some.got refl c.in-Some.ensures.some c.in-Some.ensures.next
 
 pub take_packet-requires : goal.take_packet-requires
 take_packet-requires g c =
@@ -49,5 +49,5 @@ returns-in-None-clause-asks g c =
     let M = g.P.Port.meaning in
     let (none, same) = c.in-None.ensures.none refl in
     let size : length c.next.new.buf ≡ length c.args.buf.now = omega arith in
-    let asks = subst (λ (k : ℕ). Asks (addresses_of p.peers.items) k c.take_packet.new.buf (record { below = M p.port; held = c.next.new.self }) (taker_of (M n.port) n) c.take_packet.result) size c.take_packet.ensures.asks in
-    subst (λ (r : Received). Asks (addresses_of p.peers.items) (length c.args.buf.now) c.take_packet.new.buf (record { below = M p.port; held = r }) (taker_of (M n.port) n) c.take_packet.result) same asks
+    let asks = subst (λ (k : ℕ). Asks (addresses_of p.peers.items) p.now k c.take_packet.new.buf (record { below = M p.port; held = c.next.new.self }) (taker_of (M n.port) n) c.take_packet.result) size c.take_packet.ensures.asks in
+    subst (λ (r : Received). Asks (addresses_of p.peers.items) p.now (length c.args.buf.now) c.take_packet.new.buf (record { below = M p.port; held = r }) (taker_of (M n.port) n) c.take_packet.result) same asks

@@ -19,7 +19,7 @@ pub returns-clause-opened : goal.returns-clause-opened
 returns-clause-opened g c = λ none.
     let old = c.args.self.now in
     let packet : c.front-packet.result.now ≡ take c.args.len old.room.items = c.front-packet.ensures ∙ ap (take c.args.len) c.as_slice.ensures.value in
-    subst (λ (p : List ℕ). IsOpenedOf (addresses_of old.peers.items) c.args.from p old.received c.take.new.self) packet (inl (c.note_heard.ensures.peer c.if-not-note_heard.false, c.take.ensures.opened none))
+    subst (λ (p : List ℕ). IsOpenedOf (addresses_of old.peers.items) c.args.from old.now p old.received c.take.new.self) packet (inl (c.note_heard.ensures.peer c.if-not-note_heard.false, c.take.ensures.opened none))
 
 pub returns-then-not-note_heard-clause-opened : goal.returns-then-not-note_heard-clause-opened
 returns-then-not-note_heard-clause-opened g c = λ _. inr ((λ has. c.note_heard.ensures.stranger c.if-not-note_heard.true (peer_of c.args.self.now.peers.items c.args.from has)), refl)

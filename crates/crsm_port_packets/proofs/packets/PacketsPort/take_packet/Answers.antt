@@ -1,4 +1,4 @@
-use Rattle.std.proofs.Common.{◌∙◌, ℕ, List, Ok, ap, length, subst, sym, take}
+use Rattle.std.proofs.Common.{◌∙◌, Ok, ap, length, subst, sym, take}
 use Rattle.std.specs.Prelude.{IfSome}
 use Rattle.crsm_port.specs.Passing.{IsOf, NoMore, Only}
 use Rattle.crsm_port.specs.Meaning.{Meaning}
@@ -51,13 +51,12 @@ returns-in-Datagram-clause-asks g c =
     let new = c.open.new.self in
     let size = length c.args.buf.now in
     let came = rw c.in-Datagram.is at c.in_ok-recv_below.ensures.receives in
-    let same = ap (λ (x : PacketsPort g.row.P.Denot g.row.C.Denot). addresses_of x.peers.items) c.recv_below.ensures.same in
     let none = subst (λ (r : Received). NoneLeft r.unpacking) (sym c.recv_below.ensures.received) c.requires in
-    let asks = packet_asks (addresses_of mid.peers.items) size c.open.new.buf (record { below = M old.port; held = mid.received }) (record { below = M mid.port; held = new.received }) old.room.items mid.room.items c.in-Datagram.from c.in-Datagram.len
+    let asks = packet_asks (addresses_of mid.peers.items) mid.now size c.open.new.buf (record { below = M old.port; held = mid.received }) (record { below = M mid.port; held = new.received }) old.room.items mid.room.items c.in-Datagram.from c.in-Datagram.len
     c.open.result none came c.open.ensures.packed c.open.ensures.opened c.open.ensures.some c.open.ensures.goes in
-    let below = subst (λ (m : Meaning). Asks (addresses_of mid.peers.items) size c.open.new.buf (record { below = M old.port; held = mid.received }) (record { below = m; held = new.received }) (Ok c.open.result)) (sym (ap M c.open.ensures.port)) asks in
-    let held = subst (λ (r : Received). Asks (addresses_of mid.peers.items) size c.open.new.buf (record { below = M old.port; held = r }) (taker_of (M new.port) new) (Ok c.open.result)) c.recv_below.ensures.received below in
-    subst (λ (places : List ℕ). Asks places size c.open.new.buf (taker_of (M old.port) old) (taker_of (M new.port) new) (Ok c.open.result)) same held
+    let below = subst (λ (m : Meaning). Asks (addresses_of mid.peers.items) mid.now size c.open.new.buf (record { below = M old.port; held = mid.received }) (record { below = m; held = new.received }) (Ok c.open.result)) (sym (ap M c.open.ensures.port)) asks in
+    let held = subst (λ (r : Received). Asks (addresses_of mid.peers.items) mid.now size c.open.new.buf (record { below = M old.port; held = r }) (taker_of (M new.port) new) (Ok c.open.result)) c.recv_below.ensures.received below in
+    subst (λ (x : PacketsPort g.row.P.Denot g.row.C.Denot). Asks (addresses_of x.peers.items) x.now size c.open.new.buf (taker_of (M old.port) old) (taker_of (M new.port) new) (Ok c.open.result)) c.recv_below.ensures.same held
 
 pub returns-in-Nothing-clause-asks : goal.returns-in-Nothing-clause-asks
 returns-in-Nothing-clause-asks g c = (c.requires, (c.args.self.now.room.items, c.recv_below.new.self.room.items, rw c.in-Nothing.is at c.in_ok-recv_below.ensures.receives))
@@ -67,7 +66,7 @@ returns-in_err-recv_below-clause-asks g c =
     let M = g.P.Port.meaning in
     let old = c.args.self.now in
     let mid = c.recv_below.new.self in
-    fails_so (addresses_of old.peers.items) (length c.args.buf.now) c.args.buf.now (taker_of (M old.port) old) (taker_of (M mid.port) mid) c.in_err-recv_below.field-0.0 c.from_residual.result c.from_residual.ensures.1
+    fails_so (addresses_of old.peers.items) old.now (length c.args.buf.now) c.args.buf.now (taker_of (M old.port) old) (taker_of (M mid.port) mid) c.in_err-recv_below.field-0.0 c.from_residual.result c.from_residual.ensures.1
     (c.requires, (old.room.items, mid.room.items, c.in_err-recv_below.ensures.receives))
 
 pub returns-in-Datagram-clause-addresses : goal.returns-in-Datagram-clause-addresses

@@ -2,6 +2,7 @@ use Rattle.std.proofs.Common.{◌∙◌, ℕ, List, ap, length, subst}
 use Rattle.crsm_port.specs.Sent.{packets_of}
 use Rattle.crsm_port_packets.specs.Asking.{AsksUntil, Taker, taker_of}
 use Rattle.crsm_port_packets.specs.Peers.{addresses_of}
+use Rattle.crsm_port_packets.specs.declared.packets.PacketsPort.{PacketsPort}
 use Rattle.crsm_port_packets.specs.declared.received.Received.{Received}
 use Rattle.crsm_port_packets.proofs.Greetings.{same_addresses}
 use Rattle.crsm_port_packets.proofs.Passings.{handed_up}
@@ -26,8 +27,9 @@ returns-clause-goes g c =
     let new = c.next-got.new.self in
     let size = length c.args.buf.now in
     let start : Taker = record { below = M mid.port; held = old.received } in
-    let held = subst (λ (r : Received). AsksUntil (addresses_of mid.peers.items) size c.next-got.new.buf (record { below = M mid.port; held = r }) (taker_of (M new.port) new) c.next-got.result) c.let_go.ensures.received c.next-got.ensures.asks in
-    let asks = subst (λ (places : List ℕ). AsksUntil places size c.next-got.new.buf start (taker_of (M new.port) new) c.next-got.result) (same_addresses old.peers.items mid.peers.items c.let_go.ensures.peers) held in
+    let held = subst (λ (r : Received). AsksUntil (addresses_of mid.peers.items) mid.now size c.next-got.new.buf (record { below = M mid.port; held = r }) (taker_of (M new.port) new) c.next-got.result) c.let_go.ensures.received c.next-got.ensures.asks in
+    let timed = subst (λ (at : ℕ). AsksUntil (addresses_of mid.peers.items) at size c.next-got.new.buf start (taker_of (M new.port) new) c.next-got.result) (ap (λ (x : PacketsPort g.row.P.Denot g.row.C.Denot). x.now) c.let_go.ensures.same) held in
+    let asks = subst (λ (places : List ℕ). AsksUntil places old.now size c.next-got.new.buf start (taker_of (M new.port) new) c.next-got.result) (same_addresses old.peers.items mid.peers.items c.let_go.ensures.peers) timed in
     rw c.count.ensures.same (M mid.port, c.let_go.ensures.goes, asks)
 
 pub returns-clause-addresses : goal.returns-clause-addresses
