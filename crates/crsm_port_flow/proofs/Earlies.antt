@@ -1,19 +1,16 @@
 -- Frames that wait, and datagrams of peers that are ready.
-use Rattle.std.proofs.Common.{◌≡◌, ◌∙◌, ◌-◌, ◌<◌, ◌++◌, ℕ, zero, suc, List, [], ◌∷◌, length, set, refl, sym, ap, subst, arith, inl, inr, Option, Some, None, Vec, Global, Result, Ok, Err}
+use Rattle.std.proofs.Common.{◌≡◌, ◌∙◌, ◌<◌, ◌≤◌, ◌++◌, ℕ, zero, suc, List, [], ◌∷◌, length, set, refl, sym, ap, subst, arith, inl, inr, Option, Some, None, Vec, Global, Result, Ok, Err}
 use Rattle.std.proofs.lemmas.List.{append_assoc, get_or-set_same}
 use Rattle.std.proofs.lemmas.List.Elements.{Contains-append_left, Contains-append_right}
 use Rattle.std.proofs.lemmas.List.Sums.{sum_by-cons}
 use Rattle.std.proofs.lemmas.Option.{none-some}
-use Rattle.std.specs.List.{sum_by}
 use Rattle.std.specs.Prelude.{◌⊎◌, Contains, OnErr, OnOk, slice_get, slice_index_or}
 use Rattle.crsm_port.specs.Passing.{Datagrams, NoMore, either}
 use Rattle.crsm_port_flow.proofs.Keepings.{push_cases}
-use Rattle.crsm_port_flow.specs.Early.{AreFrames, Expects, IsEarlyIn, KeepsSome, NoneNext, TakesNext, Waits, WaitsAs, after, place_of}
+use Rattle.crsm_port_flow.specs.Early.{AreFrames, Expects, IsEarlyIn, KeepsSome, NoneNext, TakesNext, Waits, WaitsAs, after, frames_at, frames_in, place_of}
 use Rattle.crsm_port_flow.specs.Kept.{Is, KeepsOnly, early_in, packet_of, ready_in}
-use Rattle.crsm_port_flow.specs.Rooms.{Counts, IsOneMore, size_of}
 use Rattle.crsm_port_flow.specs.Taken.{IsMadeReady, StaysReady}
 use Rattle.crsm_port_flow.specs.declared.datagram.Datagram.{Datagram}
-use Rattle.crsm_port_flow.specs.declared.datagram.Room.{Room}
 use Rattle.crsm_port_flow.specs.declared.early.Early.{Early}
 use Rattle.crsm_port_flow.specs.declared.early.Frame.{Frame}
 use Rattle.crsm_port_flow.specs.declared.early.Link.{Link}
@@ -83,20 +80,19 @@ none_pushed xs ys before same k f at = none_at xs before k (subst (λ (zs : List
     none_at (z ∷ zs) keeps zero is = keeps zero f is
     none_at (z ∷ zs) keeps (suc i) is = none_at zs (λ j g w. keeps (suc j) g w) i is
 
--- ---- how many wait, and their bytes
+-- ---- how many wait
 
-pub none_sums : (f : Option Frame → ℕ) (xs : List (Option Frame)) → f None ≡ 0 → KeepsSome [] xs → sum_by f xs ≡ 0
-none_sums f [] zeroed keeps = refl
-none_sums f (None ∷ xs) zeroed keeps = omega (arith, sum_by-cons f None xs, zeroed, none_sums f xs zeroed (λ k g at. keeps (suc k) g at))
-none_sums f (Some g ∷ xs) zeroed keeps = absurd (none-some g (keeps zero g refl))
+pub frames_within : (frames : List (Option Frame)) → frames_in frames ≤ length frames
+frames_within [] = omega arith
+frames_within (None ∷ fs) = omega (arith, sum_by-cons frames_at None fs, frames_within fs)
+frames_within (Some f ∷ fs) = omega (arith, sum_by-cons frames_at (Some f) fs, frames_within fs)
 
--- one that waited is taken back
-pub counts_fewer : (room room_now : Room) (d : Datagram) (old new : List (Option Frame)) (others sizes : ℕ) → IsOneMore d new old → (room_now.count ≡ room.count - 1) × (room_now.size ≡ room.size - size_of d) → Counts room others sizes old
-    → Counts room_now others sizes new
-counts_fewer room room_now d old new others sizes one back counts = (omega (arith, one.0, back.0, counts.0), omega (arith, one.1, back.1, counts.1))
-
-pub counts_same : (room : Room) (old new : List (Option Frame)) (others sizes : ℕ) → new ≡ old → Counts room others sizes old → Counts room others sizes new
-counts_same room old new others sizes same counts = subst (λ (xs : List (Option Frame)). Counts room others sizes xs) (sym same) counts
+pub frames_fewer : (xs ys : List (Option Frame)) → KeepsSome xs ys → frames_in ys ≤ frames_in xs
+frames_fewer xs [] keeps = omega arith
+frames_fewer [] (None ∷ ys) keeps = omega (arith, sum_by-cons frames_at None ys, frames_fewer [] ys (λ k f at. keeps (suc k) f at))
+frames_fewer [] (Some g ∷ ys) keeps = absurd (none-some g (keeps zero g refl))
+frames_fewer (x ∷ xs) (None ∷ ys) keeps = omega (arith, sum_by-cons frames_at x xs, sum_by-cons frames_at None ys, frames_fewer xs ys (λ k f at. keeps (suc k) f at))
+frames_fewer (x ∷ xs) (Some g ∷ ys) keeps = omega (arith, sum_by-cons frames_at x xs, sum_by-cons frames_at (Some g) ys, ap frames_at (keeps zero g refl), frames_fewer xs ys (λ k f at. keeps (suc k) f at))
 
 -- ---- the frame that is expected next
 

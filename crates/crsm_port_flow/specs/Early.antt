@@ -1,4 +1,5 @@
 -- Frames that wait for an earlier one of their link.
+use Rattle.std.specs.List.{sum_by}
 use Rattle.std.specs.Prelude.{◌≡◌, ◌⊎◌, ◌+◌, ◌-◌, ◌*◌, ◌%◌, ◌^◌, ◌<◌, ◌≤◌, ◌==◌, if◌then◌else◌, ℕ, List, [], ◌∷◌, Contains, Option, Some, None, min, slice_get, slice_index_or, slice_set}
 use Rattle.crsm_port_flow.specs.declared.datagram.Datagram.{Datagram}
 use Rattle.crsm_port_flow.specs.declared.early.Frame.{Frame}
@@ -23,6 +24,15 @@ kept_at from number frames = slice_index_or frames (place_of from number) None
 -- the place has the frame of this sender and number
 abbrev pub IsFrameOf : ℕ → ℕ → Option Frame → Type 0
 IsFrameOf from number place = (f : Frame) × (place ≡ Some f) × (f.from ≡ from) × (f.number ≡ number)
+
+-- the number of frames in a place, none or one
+abbrev pub frames_at : Option Frame → ℕ
+frames_at None = 0
+frames_at (Some f) = 1
+
+-- the number of frames that wait
+abbrev pub frames_in : List (Option Frame) → ℕ
+frames_in frames = sum_by frames_at frames
 
 -- a frame of this sender and number waits
 abbrev pub Waits : ℕ → ℕ → List (Option Frame) → Type 0

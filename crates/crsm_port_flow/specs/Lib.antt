@@ -8,6 +8,8 @@ pub mod Losses
 pub mod Lost
 pub mod New
 pub mod Order
+pub mod Paces
+pub mod Quiets
 pub mod Reads
 pub mod Rooms
 pub mod Same

@@ -1,11 +1,16 @@
--- Room for datagrams that are kept, and what it counts.
-use Rattle.std.specs.Prelude.{◌≡◌, ◌⊎◌, ◌+◌, ◌≤◌, ◌<◌, ℕ, List, length, Option, Some, None}
+-- Memory and room for datagrams that are kept, and what the room counts.
+use Rattle.std.proofs.Common.{Global, Vec}
+use Rattle.std.specs.Prelude.{◌≡◌, ◌⊎◌, ◌+◌, ◌≤◌, ◌<◌, ◌++◌, ℕ, List, [], ◌∷◌, length, Option, Some, None, vec_capacity}
 use Rattle.std.specs.List.{sum_by}
 use Rattle.crsm_port_flow.specs.declared.clients.Operate.{Operate}
+use Rattle.crsm_port_flow.specs.declared.datagram.Buffers.{Buffers}
 use Rattle.crsm_port_flow.specs.declared.datagram.Datagram.{Datagram}
-use Rattle.crsm_port_flow.specs.declared.datagram.Room.{Room}
-use Rattle.crsm_port_flow.specs.declared.early.Frame.{Frame}
 use Rattle.crsm_port_flow.specs.declared.requests.Waiting.{Waiting}
+use Rattle.crsm_port_flow.specs.declared.room.Room.{Room}
+
+-- no memory that is at hand is long enough for so many bytes: none is spare, or what would be used is shorter
+abbrev pub IsShortOf : ℕ → Buffers → Type 0
+IsShortOf size b = (before : List (Vec ℕ Global)) (last : Vec ℕ Global) → b.spare.items ≡ before ++ last ∷ [] → vec_capacity last < size
 
 -- there is no room for one more datagram of this many bytes: as many are kept as may be, or with it they would be too long
 abbrev pub IsFull : (most most_bytes size : ℕ) → Room → Type 0
@@ -21,9 +26,6 @@ HasAsMany old new = (new.count ≡ old.count) × (new.size ≡ old.size)
 
 abbrev pub size_of : Datagram → ℕ
 size_of d = length d.bytes.items
-
-abbrev pub sizes_of : List Datagram → ℕ
-sizes_of ds = sum_by size_of ds
 
 -- ---- what others ask for
 
@@ -42,22 +44,3 @@ bytes_in (Some o) = size_of o.datagram
 -- the room counts the requests that wait, and the request for a membership change
 abbrev pub CountsAsked : Room → List Waiting → Option Operate → Type 0
 CountsAsked room waiting operate = (room.count ≡ length waiting + operates_in operate) × (room.size ≡ sum_by size_of_request waiting + bytes_in operate)
-
--- ---- what is kept of peers
-
--- the number of frames in a place, none or one, and of their bytes
-abbrev pub frames_at : Option Frame → ℕ
-frames_at None = 0
-frames_at (Some f) = 1
-
-abbrev pub bytes_at : Option Frame → ℕ
-bytes_at None = 0
-bytes_at (Some f) = size_of f.datagram
-
--- of the second list one frame more waits, with this datagram
-abbrev pub IsOneMore : Datagram → List (Option Frame) → List (Option Frame) → Type 0
-IsOneMore d old new = (sum_by frames_at new ≡ sum_by frames_at old + 1) × (sum_by bytes_at new ≡ sum_by bytes_at old + size_of d)
-
--- the room counts the frames that wait, and so many other datagrams with so many bytes
-abbrev pub Counts : Room → (others sizes : ℕ) → List (Option Frame) → Type 0
-Counts room others sizes frames = (room.count ≡ others + sum_by frames_at frames) × (room.size ≡ sizes + sum_by bytes_at frames)

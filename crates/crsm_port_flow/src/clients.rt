@@ -3,9 +3,10 @@
 ghost use Rattle.crsm_port_flow.specs.Rooms.{CountsAsked};
 
 use crate::commands::Command;
-use crate::datagram::{Datagram, Limits, Loss, Room};
+use crate::datagram::{Datagram, Loss};
 use crate::heads::{Asked, asked_in};
 use crate::requests::{MOST_KEPT, RequestFate, Requests};
+use crate::room::{Limits, Room};
 use crate::time::is_recent;
 use crsm_base::NoMemory;
 use crsm_port::Recv;

@@ -1,9 +1,7 @@
 //! Datagrams that were received and are not handed up yet.
 
-ghost use Rattle.std.specs.Prelude.{◌≡◌, ◌+◌, ◌-◌, ◌<◌, ◌≤◌, length, true, false, IfOk, OnOk, OnErr, IsErrOf};
-ghost use Rattle.crsm_port_flow.specs.Kept.{GoesUp, packet_of};
-ghost use Rattle.crsm_port_flow.specs.Losses.{CountsLoss};
-ghost use Rattle.crsm_port_flow.specs.Rooms.{HasAsMany, HasOneMore, IsFull, size_of};
+ghost use Rattle.std.specs.Prelude.{◌≡◌, ◌+◌, ◌≤◌, [], length, IfOk, OnErr};
+ghost use Rattle.crsm_port_flow.specs.declared.datagram.Loss.TheVariants.{NoMemory as NoMemoryLoss};
 
 use crsm_base::NoMemory;
 use crsm_port::Recv;
@@ -18,6 +16,16 @@ pub(crate) struct Datagram {
 }
 
 impl Datagram {
+    ghost use Rattle.crsm_port_flow.specs.Kept.{GoesUp, packet_of};
+    ghost use Rattle.crsm_port_flow.specs.Rooms.{size_of};
+
+    /// Returns the length of the datagram in bytes.
+    pub(crate) fn len(&self) -> usize
+        ensures { result ≡ size_of self.now }
+    {
+        self.bytes.len()
+    }
+
     /// Copies the datagram to the buffer, as far as it has room, and returns it as received.
     pub(crate) fn hand_up(&self, buf: &mut [u8]) -> Recv
         ensures { GoesUp (packet_of self.now) buf.old buf.new result }
@@ -34,9 +42,17 @@ impl Datagram {
 /// Why a received datagram goes no further.
 #[derive(Clone, Copy, PartialEq)]
 pub(crate) enum Loss {
-    /// It asks for nothing, or there is no room for it.
+    /// It asks for nothing, there is no room for it, or it is a frame that cannot wait for an earlier one.
     Dropped,
     NoMemory,
+}
+
+impl From<NoMemory> for Loss {
+    ghost from_gives = { λ _ loss. loss ≡ NoMemoryLoss };
+
+    fn from(_: NoMemory) -> Self {
+        Loss::NoMemory
+    }
 }
 
 /// The number of received datagrams that went no further, by the reason.
@@ -47,8 +63,12 @@ pub(crate) struct Losses {
 }
 
 impl Losses {
+    ghost use Rattle.crsm_port_flow.specs.Losses.{CountsLoss};
+
     /// Returns the numbers before the first datagram.
-    pub(crate) fn new() -> Losses {
+    pub(crate) fn new() -> Losses
+        ensures { (result.dropped ≡ 0) × (result.unkept ≡ 0) }
+    {
         Losses {
             dropped: 0,
             unkept: 0,
@@ -66,83 +86,53 @@ impl Losses {
     }
 }
 
-/// Maximum number of datagrams that are kept, and of their bytes together.
-#[derive(Clone, Copy)]
-pub(crate) struct Limits {
-    pub(crate) datagrams: usize,
-    pub(crate) bytes: usize,
-}
+/// Maximum length of a packet in bytes. No frame of a replica is longer than 1,158: its entry has at most 1,129, 20 stand
+/// before that, and 9 before the frame for the mark of a cluster.
+pub(crate) const PACKET_BYTES: usize = 1_232;
 
-/// Counts the datagrams that are kept, and their bytes.
+/// Maximum number of datagrams whose memory is kept for others.
+const MOST_SPARE: usize = 1_024;
+
+/// Memory for datagrams. That of datagrams that were handed up is used again.
 #[derive(Drop)]
-pub(crate) struct Room {
+pub(crate) struct Buffers {
     alloc: Global,
-    count: usize,
-    size: usize,
-    // Memory of datagrams that were handed up.
     spare: Vec<Vec<u8>>,
+    ghost few: { length spare.items ≤ 1_024 },
 }
 
-impl Room {
-    /// Returns a room without datagrams.
-    pub(crate) fn new(alloc: Global) -> Room
-        ensures { (result.count ≡ 0) × (result.size ≡ 0) }
+impl Buffers {
+    ghost use Rattle.crsm_port_flow.specs.Kept.{Is};
+    ghost use Rattle.crsm_port_flow.specs.Rooms.{IsShortOf};
+
+    /// Returns memory of which none is spare.
+    pub(crate) fn new(alloc: Global) -> Buffers
+        ensures { result.spare.items ≡ [] }
     {
-        Room {
+        Buffers {
             alloc,
-            count: 0,
-            size: 0,
             spare: Vec::new(alloc),
         }
     }
 
-    /// Returns a datagram that is kept here until it is taken back. `Dropped` if there is no room; `NoMemory` if memory
-    /// runs out.
-    pub(crate) fn put(&mut self, limits: Limits, from: u64, bytes: &[u8]) -> Result<Datagram, Loss>
-        ensures kept { IfOk result (λ d. packet_of d ≡ record { address = from; bytes = bytes.now }) }
-        ensures full { IsErrOf result Loss.Dropped → IsFull limits.datagrams limits.bytes (length bytes.now) self.old }
-        ensures one_more { OnOk result (HasOneMore (length bytes.now) self.old self.new × (self.new.count ≤ limits.datagrams)) }
-        ensures same { OnErr result (HasAsMany self.old self.new) }
-    {
-        let len = bytes.len();
-        if !self.has_room(limits, len) {
-            return Err(Loss::Dropped);
-        }
-        let Ok(bytes) = self.copy_of(bytes) else {
-            return Err(Loss::NoMemory);
-        };
-        self.count += 1;
-        self.size += len;
-        Ok(Datagram { from, bytes })
-    }
-
-    /// Returns whether there is room for one more datagram of this length in bytes.
-    fn has_room(&self, limits: Limits, len: usize) -> bool
-        ensures room { result ≡ true → (self.now.count < limits.datagrams) × (self.now.size + len ≤ limits.bytes) }
-        ensures full { result ≡ false → IsFull limits.datagrams limits.bytes len self.now }
-    {
-        self.count < limits.datagrams
-            && self.size <= limits.bytes
-            && len <= limits.bytes - self.size
-    }
-
-    /// Copies the bytes, into spare memory if there is any. `NoMemory` if memory runs out.
-    fn copy_of(&mut self, bytes: &[u8]) -> Result<Vec<u8>, NoMemory>
-        ensures copy { IfOk result (λ v. v.items ≡ bytes.now) }
-        ensures same { HasAsMany self.old self.new }
+    /// Returns a copy of the bytes as a datagram, in spare memory if there is any. `NoMemory` if memory runs out.
+    pub(crate) fn datagram(&mut self, from: u64, bytes: &[u8]) -> Result<Datagram, NoMemory>
+        ensures copy { IfOk result (Is from bytes.now) }
+        ensures no_memory { OnErr result (IsShortOf (length bytes.now) self.old) }
     {
         let mut copy = self.spare.pop().unwrap_or(Vec::new(self.alloc));
         copy.clear();
         copy.extend_from_slice(bytes)?;
-        Ok(copy)
+        Ok(Datagram { from, bytes: copy })
     }
 
-    /// Takes a datagram back, so that there is room for another.
+    /// Takes the memory of a datagram back, for another one.
     pub(crate) fn take_back(&mut self, datagram: Datagram)
-        ensures { (self.new.count ≡ self.old.count - 1) × (self.new.size ≡ self.old.size - size_of datagram) }
+        ensures { length self.new.spare.items ≤ length self.old.spare.items + 1 }
     {
-        self.count = self.count.saturating_sub(1);
-        self.size = self.size.saturating_sub(datagram.bytes.len());
-        let _ = self.spare.push(datagram.bytes);
+        if datagram.bytes.len() <= PACKET_BYTES && self.spare.len() < MOST_SPARE {
+            // Without memory for this it is freed.
+            let _ = self.spare.push(datagram.bytes);
+        }
     }
 }

@@ -2,9 +2,8 @@
 
 ghost use Rattle.std.specs.Prelude.{◌≡◌, ◌<◌, ◌≤◌, ◌↔◌, ◌-◌, ◌^◌, ◌==◌, if◌then◌else◌, ℕ, [], None, length, slice_index_or, slice_set, IfOk, IfErr, IfSome, IsSome, IsTrue, OnOk, true};
 ghost use Rattle.crsm_port_flow.specs.Early.{Expects, kept_at, IsAfterExpected, IsEarlyIn, IsFrameBelow, IsFrameOf, KeepsSome, Learns, LosesBelow, NoneBelow, NoneNext, OneMoreWaits, StayKept, TakesNext, Waits, WaitsAs, after, place_of};
-ghost use Rattle.crsm_port_flow.specs.Rooms.{Counts, IsOneMore};
 
-use crate::datagram::{Datagram, Room};
+use crate::datagram::{Buffers, Datagram};
 use crate::heads::Head;
 use crate::time::is_recent;
 use crsm_base::NoMemory;
@@ -14,6 +13,9 @@ use std::alloc::Global;
 const REPLICAS: usize = 15;
 
 const WINDOW: usize = 1_024;
+
+/// Maximum number of frames that are kept.
+pub(crate) const MOST_EARLY: usize = REPLICAS * WINDOW;
 
 /// Time in microseconds between two early frames of a link that are handed up: the replica acknowledges each, and the
 /// sender sees by this which one is missing.
@@ -126,7 +128,6 @@ impl Early {
         ensures waits { OnOk result (WaitsAs frame.from frame.number datagram self.new.frames.items) }
         ensures stay { StayKept self.old.frames.items self.new.frames.items }
         ensures only { OneMoreWaits datagram self.old.frames.items self.new.frames.items }
-        ensures one_more { OnOk result (IsOneMore datagram self.old.frames.items self.new.frames.items) }
         ensures links { self.new.links ≡ self.old.links }
         ensures taken { IfErr result (λ d. (d ≡ datagram) × (self.new.frames.items ≡ self.old.frames.items) × (kept_at frame.from frame.number self.old.frames.items ≡ None → ⊥)) }
     {
@@ -185,10 +186,8 @@ impl Early {
 
     /// Records the sequence number that this replica expects next from another. Frames of another epoch, and those
     /// before it, are removed, and their datagrams taken back.
-    pub(crate) fn note_expected(&mut self, of: u8, epoch: u64, next: u64, room: &mut Room)
+    pub(crate) fn note_expected(&mut self, of: u8, epoch: u64, next: u64, buffers: &mut Buffers)
         ensures only { KeepsSome self.old.frames.items self.new.frames.items }
-        ensures room { (others sizes : ℕ) → Counts room.old others sizes self.old.frames.items → Counts room.new others sizes self.new.frames.items }
-        ensures no_more { room.new.count ≤ room.old.count }
         ensures learns { Learns of epoch next self.old.links.items self.new.links.items self.old.frames.items self.new.frames.items }
     {
         let Some(link) = self.links.get_mut(usize::from(of)) else {
@@ -204,21 +203,19 @@ impl Early {
         }
         link.epoch = epoch;
         link.next = next;
-        self.forget(of, least_kept(known, epoch, next), room);
+        self.forget(of, least_kept(known, epoch, next), buffers);
     }
 
     /// Removes the kept frames of a replica before a number.
-    fn forget(&mut self, of: u8, least: u64, room: &mut Room)
+    fn forget(&mut self, of: u8, least: u64, buffers: &mut Buffers)
         ensures only { KeepsSome self.old.frames.items self.new.frames.items }
-        ensures room { (others sizes : ℕ) → Counts room.old others sizes self.old.frames.items → Counts room.new others sizes self.new.frames.items }
-        ensures no_more { room.new.count ≤ room.old.count }
         ensures links { self.new.links ≡ self.old.links }
         ensures lost { LosesBelow of least self.old.frames.items self.new.frames.items }
         ensures gone { NoneBelow of least self.new.frames.items }
     {
         for number in 0..WINDOW as u64 {
             if let Some(datagram) = take_below(&mut self.frames, place_of(of, number), of, least) {
-                room.take_back(datagram);
+                buffers.take_back(datagram);
             }
         }
     }
@@ -229,8 +226,8 @@ fn no_frames(alloc: Global) -> Result<Vec<Option<Frame>>, NoMemory>
     ensures free { IfOk result (λ frames. KeepsSome [] frames.items) }
     ensures all { IfOk result (λ frames. length frames.items ≡ 15_360) }
 {
-    let mut frames = Vec::with_capacity(alloc, REPLICAS * WINDOW)?;
-    while frames.len() < REPLICAS * WINDOW {
+    let mut frames = Vec::with_capacity(alloc, MOST_EARLY)?;
+    while frames.len() < MOST_EARLY {
         frames.push(None)?;
     }
     Ok(frames)
@@ -285,7 +282,7 @@ fn take_below(
     least: u64,
 ) -> Option<Datagram>
     ensures was { IsSome result → IsFrameBelow from least (slice_index_or frames.old.items place None) }
-    ensures gone { IfSome result (λ d. IsOneMore d frames.new.items frames.old.items × (frames.new.items ≡ slice_set frames.old.items place None)) }
+    ensures gone { IsSome result → frames.new.items ≡ slice_set frames.old.items place None }
     ensures none { result ≡ None → frames.new.items ≡ frames.old.items }
     ensures above { result ≡ None → IsFrameBelow from least (slice_index_or frames.old.items place None) → ⊥ }
 {

@@ -1,6 +1,6 @@
 //! `FlowPort`: retransmission and flow control around a port.
 
-ghost use Rattle.std.specs.Prelude.{◌≡◌, ◌≢◌, ◌≤◌, ◌⊎◌, ◌++◌, List, [], take, true, false, All, None, Option, IfOk, IfSome, IsErrOf, IsOk, IsOkAnd, OnErr, OnOk, length};
+ghost use Rattle.std.specs.Prelude.{◌≡◌, ◌≢◌, ◌<◌, ◌≤◌, ◌⊎◌, ◌++◌, List, [], take, true, false, All, None, Option, IfOk, IfSome, IsErrOf, IsOk, IsOkAnd, OnErr, OnOk, length};
 ghost use Rattle.crsm_clock.specs.Readings.{Gives, Readings};
 ghost use Rattle.crsm_port_faults.specs.Counts.{Rose};
 ghost use Rattle.crsm_port.specs.Meaning.{IsWithin, Packet, Receives, Reserves, Sends, SendsAll};
@@ -9,7 +9,7 @@ ghost use Rattle.crsm_port.specs.Unknown.{unknown};
 ghost use Rattle.crsm_port_flow.specs.Followed.{GoesBy};
 ghost use Rattle.crsm_port_flow.specs.Hears.{AreKnownBy, Tells};
 ghost use Rattle.crsm_port_flow.specs.Kept.{KeepsOnly, given_by, kept_in};
-ghost use Rattle.crsm_port_flow.specs.Lost.{MayDrop, TakesIn};
+ghost use Rattle.crsm_port_flow.specs.Lost.{ComesUnlessEarly, MayDrop, MayLackMemory, TakesIn};
 ghost use Rattle.crsm_port_flow.specs.New.{IsNew};
 ghost use Rattle.crsm_port_flow.specs.Order.{NextGoes, NothingGoes};
 ghost use Rattle.crsm_port_flow.specs.Reads.{IsAnswer, ReadsAhead, ReadsAll, ReadsOne, SendsAndTakes, TakesAndEnds, TakesOrEnds, state_of};
@@ -26,6 +26,7 @@ use crate::datagram::{Loss, Losses};
 use crate::hearing::{Heard, Hearing};
 use crate::inbound::Inbound;
 use crate::outbound::Outbound;
+use crate::peers::MOST_AHEAD;
 use crate::quiet::Quiet;
 use crsm_base::{Failed, NoMemory};
 use crsm_clock::Clock;
@@ -35,9 +36,6 @@ use std::alloc::Global;
 
 /// Maximum length of a datagram in bytes, with the mark of a cluster.
 const MOST_RECEIVED: usize = 8_201;
-
-/// Maximum number of datagrams of peers that are read ahead.
-const MOST_AHEAD: usize = 1_024;
 
 /// Maximum number of datagrams that a receive or a look ahead takes in.
 const MOST_TAKEN: usize = 2_048;
@@ -137,12 +135,14 @@ impl<P: Drop, C: Drop> FlowPort<P, C> {
 }
 
 impl<P: Port, C: Clock> FlowPort<P, C> {
-    /// Takes a received datagram in. What asks for nothing and comes from nobody who is a peer is dropped, and so is
-    /// what there is no room or no memory for.
+    /// Takes a received datagram in. What asks for nothing and comes from nobody who is a peer is dropped, and so is what
+    /// there is no room or no memory for; for what comes from a peer there is room, but for a frame that cannot wait.
     fn take_in(&mut self, from: u64, len: usize)
-        requires { len ≤ length self.old.room.items }
+        requires within { len ≤ length self.old.room.items }
+        requires few { length self.old.inbound.peers.ready.items < 1_024 }
         ensures kept { KeepsOnly from (take len self.old.room.items) (kept_in self.old.inbound) (kept_in self.new.inbound) }
         ensures comes { TakesIn from (take len self.old.room.items) self.old.now self.old.hearing.peers.items self.old.inbound self.new.inbound self.old.lost self.new.lost }
+        ensures all_but_early_frames_come { ComesUnlessEarly from (take len self.old.room.items) self.old.now self.old.hearing.peers.items self.old.inbound self.new.inbound self.old.lost self.new.lost }
         ensures leaves_room { IsStranger from self.old.hearing.peers.items → self.new.inbound.peers ≡ self.old.inbound.peers }
         ensures known { AreKnownBy self.old.hearing.me from (take len self.old.room.items) self.old.now self.old.hearing.peers.items self.new.hearing.peers.items }
         ensures me { self.new.hearing.me ≡ self.old.hearing.me }
@@ -162,10 +162,12 @@ impl<P: Port, C: Clock> FlowPort<P, C> {
     /// Takes a received datagram in. `Dropped` if it is of no use or there is no room for it, `NoMemory` if memory runs
     /// out.
     fn takes(&mut self, from: u64, len: usize) -> Result<(), Loss>
-        requires { len ≤ length self.old.room.items }
+        requires within { len ≤ length self.old.room.items }
+        requires few { length self.old.inbound.peers.ready.items < 1_024 }
         ensures kept { KeepsOnly from (take len self.old.room.items) (kept_in self.old.inbound) (kept_in self.new.inbound) }
         ensures comes { OnOk result (Comes from (take len self.old.room.items) self.old.now self.old.hearing.peers.items self.old.inbound self.new.inbound) }
         ensures dropped { IsErrOf result Loss.Dropped → MayDrop from (take len self.old.room.items) self.old.hearing.peers.items self.old.inbound }
+        ensures no_memory { IsErrOf result Loss.NoMemory → MayLackMemory from (take len self.old.room.items) self.old.hearing.peers.items self.old.inbound }
         ensures leaves_room { IsStranger from self.old.hearing.peers.items → self.new.inbound.peers ≡ self.old.inbound.peers }
         ensures known { AreKnownBy self.old.hearing.me from (take len self.old.room.items) self.old.now self.old.hearing.peers.items self.new.hearing.peers.items }
         ensures me { self.new.hearing.me ≡ self.old.hearing.me }
@@ -217,6 +219,7 @@ impl<P: Port, C: Clock> FlowPort<P, C> {
 
     /// Takes in the next datagram that has arrived at the port, and returns whether there was one.
     fn read_one(&mut self) -> bool
+        requires few { length self.old.inbound.peers.ready.items < 1_024 }
         ensures gives { NoMore (given_by (P.gives self.old.port) self.old.inbound) (given_by (P.gives self.new.port) self.new.inbound) }
         ensures sends { NoMore (P.may_send self.old.port) (P.may_send self.new.port) }
         ensures acks { self.new.outbound.acks ≡ self.old.outbound.acks }
@@ -328,6 +331,7 @@ impl<P: Port, C: Clock> FlowPort<P, C> {
 
     /// Takes in the next datagram of the port below and returns `None`, or hands up what waits if none comes.
     fn receive_one(&mut self, buf: &mut [u8], admits: bool) -> Result<Option<Recv>, Failed>
+        requires none { self.old.inbound.peers.ready.items ≡ [] }
         ensures within { IfOk result (λ got. IfSome got (IsWithin (length buf.old))) }
         ensures given { IfOk result (λ got. IfSome got (IsOf (given_by (P.gives self.old.port) self.old.inbound) buf.new)) }
         ensures gives { NoMore (given_by (P.gives self.old.port) self.old.inbound) (given_by (P.gives self.new.port) self.new.inbound) }

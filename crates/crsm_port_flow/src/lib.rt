@@ -17,6 +17,7 @@ mod peers;
 mod quiet;
 mod repeats;
 mod requests;
+mod room;
 mod time;
 mod window;
 

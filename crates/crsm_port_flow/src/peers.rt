@@ -1,35 +1,32 @@
 //! The datagrams that came from peers and are not handed up yet, each in its order.
 
-ghost use Rattle.std.specs.Prelude.{◌≡◌, ◌≤◌, length};
+ghost use Rattle.std.specs.Prelude.{◌≡◌, ◌+◌, ◌<◌, ◌≤◌, length};
 ghost use Rattle.std.specs.VecDeque.{deque_capacity};
-ghost use Rattle.crsm_port_flow.specs.Rooms.{Counts, sizes_of};
+ghost use Rattle.crsm_port_flow.specs.Early.{frames_in};
 
-use crate::datagram::{Datagram, Limits, Loss, Room};
-use crate::early::{Early, FrameFate};
+use crate::datagram::{Buffers, Datagram, Loss, PACKET_BYTES};
+use crate::early::{Early, FrameFate, MOST_EARLY};
 use crate::heads::{FRAME, Head, head_in};
 use crsm_base::NoMemory;
 use crsm_port::Recv;
 use std::alloc::Global;
 use std::collections::VecDeque;
 
-/// Maximum number of datagrams from peers that are kept.
-const MOST_DATAGRAMS: usize = 4_096;
+/// Number of datagrams of peers that are ready from which on no other is taken in.
+pub(crate) const MOST_AHEAD: usize = 1_024;
 
-const LIMITS: Limits = Limits {
-    datagrams: MOST_DATAGRAMS,
-    bytes: 16_777_216,
-};
+/// Maximum number of datagrams that are ready, if all frames that wait become so at once.
+const MOST_READY: usize = MOST_AHEAD + MOST_EARLY;
 
-/// The datagrams of peers: those in order, and frames that wait for an earlier one. They have room of their own, so that
-/// nobody else takes it.
+/// The datagrams of peers: those in order, and frames that wait for an earlier one, each of these at a place of its own.
+/// So there is always room for what waits for nothing, and nobody else takes it.
 #[derive(Drop)]
 pub(crate) struct FromPeers {
-    room: Room,
+    buffers: Buffers,
     ready: VecDeque<Datagram>,
     early: Early,
-    ghost counted: { Counts room (length ready.items) (sizes_of ready.items) early.frames.items },
-    ghost few: { room.count ≤ 4_096 },
-    ghost reserved: { 4_096 ≤ deque_capacity ready },
+    ghost few: { length ready.items + frames_in early.frames.items ≤ 16_384 },
+    ghost reserved: { 16_384 ≤ deque_capacity ready },
 }
 
 impl FromPeers {
@@ -39,8 +36,9 @@ impl FromPeers {
     ghost use Rattle.crsm_port_flow.specs.Followed.{Follow, IsExpectedOf, IsFollowed, IsFollowedFrom, LosesPast, NoneLost};
     ghost use Rattle.crsm_port_flow.specs.Heads.{HasHead};
     ghost use Rattle.crsm_port_flow.specs.Kept.{Is, KeepsOnly, of_peers};
-    ghost use Rattle.crsm_port_flow.specs.Lost.{HasNoRoomOfPeers, IsFullOfPeers};
+    ghost use Rattle.crsm_port_flow.specs.Lost.{CannotWait};
     ghost use Rattle.crsm_port_flow.specs.Order.{FirstGoes};
+    ghost use Rattle.crsm_port_flow.specs.Rooms.{IsShortOf};
     ghost use Rattle.crsm_port_flow.specs.Same.{SamePeers};
     ghost use Rattle.crsm_port_flow.specs.Taken.{IsMadeReady, IsTaken, StaysReady};
 
@@ -49,8 +47,8 @@ impl FromPeers {
         ensures { IfOk result (λ p. NoMore (λ _ _. ⊥) (of_peers p)) }
     {
         Ok(FromPeers {
-            room: Room::new(alloc),
-            ready: VecDeque::with_capacity(alloc, MOST_DATAGRAMS)?,
+            buffers: Buffers::new(alloc),
+            ready: VecDeque::with_capacity(alloc, MOST_READY)?,
             early: Early::new(alloc)?,
         })
     }
@@ -62,11 +60,13 @@ impl FromPeers {
         self.ready.len()
     }
 
-    /// Takes a datagram in, to be handed up in its order. `Dropped` if there is no room, and `NoMemory` if memory runs
-    /// out; the datagram is then lost, as any may be, and nothing else.
+    /// Takes a datagram in, to be handed up in its order. `Dropped` if it is a frame that cannot wait for an earlier one,
+    /// and `NoMemory` if memory runs out; the datagram is then lost, as any may be, and nothing else.
     pub(crate) fn take_in(&mut self, from: u64, bytes: &[u8], now: u64) -> Result<(), Loss>
+        requires few { length self.old.ready.items < 1_024 }
         ensures taken { OnOk result (IsTaken from bytes.now self.old self.new) }
-        ensures dropped { IsErrOf result Loss.Dropped → HasNoRoomOfPeers bytes.now self.old }
+        ensures dropped { IsErrOf result Loss.Dropped → CannotWait bytes.now self.old }
+        ensures no_memory { IsErrOf result Loss.NoMemory → IsShortOf (length bytes.now) self.old.buffers }
         ensures followed { OnOk result (IsFollowed from bytes.now self.old self.new) }
         ensures none_lost { NoneLost self.old self.new }
         ensures stays { StaysReady self.old.ready.items self.new.ready.items }
@@ -75,20 +75,21 @@ impl FromPeers {
     {
         match head_in(FRAME, bytes) {
             Some(frame) => self.take_frame(from, bytes, frame, now),
-            None => self.make_ready(from, bytes),
+            None => Ok(self.make_ready(from, bytes)?),
         }
     }
 
     /// Keeps a datagram to be handed up after those that are ready.
-    fn make_ready(&mut self, from: u64, bytes: &[u8]) -> Result<(), Loss>
+    fn make_ready(&mut self, from: u64, bytes: &[u8]) -> Result<(), NoMemory>
+        requires few { length self.old.ready.items < 1_024 }
         ensures ready { OnOk result ((d : Datagram) × Is from bytes.now d × (self.new.ready.items ≡ self.old.ready.items ++ d ∷ [])) }
-        ensures dropped { IsErrOf result Loss.Dropped → IsFullOfPeers bytes.now self.old }
+        ensures no_memory { OnErr result (IsShortOf (length bytes.now) self.old.buffers) }
         ensures stays { StaysReady self.old.ready.items self.new.ready.items }
         ensures early { self.new.early ≡ self.old.early }
         ensures unchanged { OnErr result (SamePeers self.old self.new) }
         ensures only { KeepsOnly from bytes.now (of_peers self.old) (of_peers self.new) }
     {
-        let datagram = self.room.put(LIMITS, from, bytes)?;
+        let datagram = self.buffers.datagram(from, bytes)?;
         self.ready.push_back_reserved(datagram);
         Ok(())
     }
@@ -96,8 +97,10 @@ impl FromPeers {
     /// Takes a frame in. If it is the expected one, those that waited for it follow it.
     fn take_frame(&mut self, from: u64, bytes: &[u8], frame: Head, now: u64) -> Result<(), Loss>
         requires head { HasHead 1 frame.from frame.to frame.epoch frame.number bytes.now }
+        requires few { length self.old.ready.items < 1_024 }
         ensures taken { OnOk result (IsTaken from bytes.now self.old self.new) }
-        ensures dropped { IsErrOf result Loss.Dropped → HasNoRoomOfPeers bytes.now self.old }
+        ensures dropped { IsErrOf result Loss.Dropped → CannotWait bytes.now self.old }
+        ensures no_memory { IsErrOf result Loss.NoMemory → IsShortOf (length bytes.now) self.old.buffers }
         ensures followed { OnOk result (IsFollowedFrom frame.from frame.epoch frame.number from bytes.now self.old self.new) }
         ensures none_lost { NoneLost self.old self.new }
         ensures stays { StaysReady self.old.ready.items self.new.ready.items }
@@ -105,16 +108,17 @@ impl FromPeers {
         ensures only { KeepsOnly from bytes.now (of_peers self.old) (of_peers self.new) }
     {
         match self.early.fate(frame) {
-            FrameFate::InOrder => self.take_in_order(from, bytes, frame),
+            FrameFate::InOrder => Ok(self.take_in_order(from, bytes, frame)?),
             FrameFate::Waits => self.take_early(from, bytes, frame, now),
             FrameFate::IsKept => Ok(()),
         }
     }
 
     /// Makes a frame ready, and those that have waited for it.
-    fn take_in_order(&mut self, from: u64, bytes: &[u8], frame: Head) -> Result<(), Loss>
+    fn take_in_order(&mut self, from: u64, bytes: &[u8], frame: Head) -> Result<(), NoMemory>
+        requires few { length self.old.ready.items < 1_024 }
         ensures ready { OnOk result (IsMadeReady from bytes.now self.old.ready.items self.new.ready.items) }
-        ensures dropped { IsErrOf result Loss.Dropped → IsFullOfPeers bytes.now self.old }
+        ensures no_memory { OnErr result (IsShortOf (length bytes.now) self.old.buffers) }
         ensures followed { OnOk result (IsFollowedFrom frame.from frame.epoch frame.number from bytes.now self.old self.new) }
         ensures none_lost { NoneLost self.old self.new }
         ensures stays { StaysReady self.old.ready.items self.new.ready.items }
@@ -129,20 +133,25 @@ impl FromPeers {
 
     /// Keeps a frame until the one before it has come, and makes it ready as well if none of its link was for a while.
     fn take_early(&mut self, from: u64, bytes: &[u8], frame: Head, now: u64) -> Result<(), Loss>
+        requires few { length self.old.ready.items < 1_024 }
         ensures waits { OnOk result ((d : Datagram) × Is from bytes.now d × WaitsAs frame.from frame.number d self.new.early.frames.items) }
-        ensures dropped { IsErrOf result Loss.Dropped → IsFullOfPeers bytes.now self.old ⊎ (kept_at frame.from frame.number self.old.early.frames.items ≡ None → ⊥) }
+        ensures dropped { IsErrOf result Loss.Dropped → (1_232 < length bytes.now) ⊎ (kept_at frame.from frame.number self.old.early.frames.items ≡ None → ⊥) }
+        ensures no_memory { IsErrOf result Loss.NoMemory → IsShortOf (length bytes.now) self.old.buffers }
         ensures none_lost { NoneLost self.old self.new }
         ensures stays { StaysReady self.old.ready.items self.new.ready.items }
         ensures unchanged { OnErr result (SamePeers self.old self.new) }
         ensures only { KeepsOnly from bytes.now (of_peers self.old) (of_peers self.new) }
     {
-        let datagram = self.room.put(LIMITS, from, bytes)?;
+        if bytes.len() > PACKET_BYTES {
+            return Err(Loss::Dropped);
+        }
+        let datagram = self.buffers.datagram(from, bytes)?;
         if let Err(datagram) = self.early.keep(frame, datagram) {
-            self.room.take_back(datagram);
+            self.buffers.take_back(datagram);
             return Err(Loss::Dropped);
         }
         if self.early.tells(frame.from, now) {
-            // It waits, whether or not there is room for this.
+            // It waits, whether or not there is memory for this.
             let _ = self.make_ready(from, bytes);
         }
         Ok(())
@@ -167,7 +176,7 @@ impl FromPeers {
     {
         let datagram = self.ready.pop_front()?;
         let got = datagram.hand_up(buf);
-        self.room.take_back(datagram);
+        self.buffers.take_back(datagram);
         Some(got)
     }
 
@@ -185,7 +194,8 @@ impl FromPeers {
             number,
             ..
         } = expected;
-        self.early.note_expected(of, epoch, number, &mut self.room);
+        self.early
+            .note_expected(of, epoch, number, &mut self.buffers);
         self.follow(of);
     }
 }

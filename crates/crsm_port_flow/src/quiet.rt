@@ -1,5 +1,8 @@
 //! Whether a node has anything to do but to tell its time.
 
+ghost use Rattle.std.specs.Prelude.{◌≡◌, ◌↔◌, IsTrue, None, Some, false, true};
+ghost use Rattle.crsm_port_flow.specs.Quiets.{IsDue, IsIdle, TellsTime};
+
 use crate::heads::{ACK, FRAME};
 use crate::time::is_recent;
 use crsm_wire::unmarked;
@@ -26,7 +29,9 @@ pub(crate) struct Quiet {
 
 /// Returns whether the bytes, with or without the mark of a cluster, tell a time or acknowledge frames, and nothing
 /// else.
-fn tells_time(bytes: &[u8]) -> bool {
+fn tells_time(bytes: &[u8]) -> bool
+    ensures { IsTrue result ↔ TellsTime bytes.now }
+{
     match unmarked(bytes) {
         [first, fields @ ..] => {
             *first == ACK || *first == FRAME && fields.get(PAYLOAD) == Some(&TIME)
@@ -37,7 +42,9 @@ fn tells_time(bytes: &[u8]) -> bool {
 
 impl Quiet {
     /// Returns a state before the first datagram.
-    pub(crate) fn new() -> Quiet {
+    pub(crate) fn new() -> Quiet
+        ensures { result ≡ record { busy_at = None; flushed_at = 0; has_heard = false } }
+    {
         Quiet {
             busy_at: None,
             flushed_at: 0,
@@ -46,30 +53,41 @@ impl Quiet {
     }
 
     /// Records a datagram that comes or goes.
-    pub(crate) fn note(&mut self, bytes: &[u8], now: u64) {
+    pub(crate) fn note(&mut self, bytes: &[u8], now: u64)
+        ensures time { TellsTime bytes.now → self.new ≡ self.old }
+        ensures more { (TellsTime bytes.now → ⊥) → self.new ≡ record self.old { busy_at = Some now } }
+    {
         if !tells_time(bytes) {
             self.busy_at = Some(now);
         }
     }
 
     /// Records that a datagram came from a peer.
-    pub(crate) fn note_heard(&mut self) {
+    pub(crate) fn note_heard(&mut self)
+        ensures { self.new ≡ record self.old { has_heard = true } }
+    {
         self.has_heard = true;
     }
 
     /// Records a flush.
-    pub(crate) fn note_flush(&mut self, now: u64) {
+    pub(crate) fn note_flush(&mut self, now: u64)
+        ensures { self.new ≡ record self.old { flushed_at = now; has_heard = false } }
+    {
         self.flushed_at = now;
         self.has_heard = false;
     }
 
     /// Returns whether a peer was heard, and the last flush is long ago.
-    pub(crate) fn is_due(&self, now: u64) -> bool {
+    pub(crate) fn is_due(&self, now: u64) -> bool
+        ensures { IsTrue result ↔ IsDue now self.now }
+    {
         self.has_heard && !is_recent(self.flushed_at, now, ANSWERS_AFTER)
     }
 
     /// Returns whether no such datagram came or went for a while.
-    pub(crate) fn is_idle(&self, now: u64) -> bool {
+    pub(crate) fn is_idle(&self, now: u64) -> bool
+        ensures { IsTrue result ↔ IsIdle now self.now }
+    {
         !self.busy_at.is_some_and(|at| is_recent(at, now, BUSY_FOR))
     }
 }

@@ -1,7 +1,9 @@
 //! Frames that were sent recently, and the frames that replicas expect.
 
-ghost use Rattle.std.specs.Prelude.{◌≡◌, ◌↔◌, ◌≤◌, All, IfOk, IsTrue, false};
+ghost use Rattle.std.specs.Prelude.{◌≡◌, ◌↔◌, ◌<◌, ◌≤◌, All, IfOk, IfSome, IsTrue, None, Some, false, max, min, slice_get};
+ghost use Rattle.crsm_port_flow.specs.Paces.{IsNeed, WentOnce, WentOnceBelow};
 ghost use Rattle.crsm_port_flow.specs.Went.{IsFrame, NotesOnly, WentLately};
+ghost use Rattle.crsm_port_flow.specs.declared.repeats.Expected.{Expected};
 
 use crate::heads::Head;
 use crate::time::is_recent;
@@ -73,7 +75,9 @@ fn paced(first: u64, again: u32) -> u64
 }
 
 /// Returns what acknowledgements take on average, where they took `delay` before and the last one took this long.
-fn smoothed(delay: u64, took: u64) -> u64 {
+fn smoothed(delay: u64, took: u64) -> u64
+    ensures { (min delay took ≤ result) × (result ≤ max delay took) }
+{
     if took >= delay {
         delay + (took - delay) / 8
     } else {
@@ -103,7 +107,9 @@ impl SentFrame {
     }
 
     /// Returns how long ago this frame was sent, if it was sent once.
-    fn age(&self, frame: Head, now: u64) -> Option<u64> {
+    fn age(&self, frame: Head, now: u64) -> Option<u64>
+        ensures { IfSome result (λ took. IsFrame frame.to frame.epoch frame.number self.now × WentOnce self.now now took) }
+    {
         if self.is(frame) && self.again == 0 {
             now.checked_sub(self.at)
         } else {
@@ -114,7 +120,11 @@ impl SentFrame {
 
 impl Expected {
     /// Records an acknowledgement, and the time that it took if that is known.
-    fn note(&mut self, ack: Head, took: Option<u64>) {
+    fn note(&mut self, ack: Head, took: Option<u64>)
+        ensures expected { (self.new.epoch ≡ ack.epoch) × (self.new.next ≡ ack.number) }
+        ensures repeated { IsTrue self.new.is_repeated ↔ ((self.old.epoch ≡ ack.epoch) × (self.old.next ≡ ack.number)) }
+        ensures unknown { took ≡ None → self.new.delay ≡ self.old.delay }
+    {
         if let Some(took) = took {
             self.delay = smoothed(self.delay, took.min(LAST_PACE));
         }
@@ -124,7 +134,9 @@ impl Expected {
     }
 
     /// Returns how a frame stands to the expected one.
-    fn need(&self, epoch: u64, number: u64) -> Need {
+    fn need(&self, epoch: u64, number: u64) -> Need
+        ensures { IsNeed result epoch number self.now }
+    {
         if !self.is_repeated || self.epoch != epoch || number < self.next {
             return Need::Unknown;
         }
@@ -144,7 +156,9 @@ pub(crate) struct Repeats {
 }
 
 /// Returns the index of a frame among the remembered ones.
-fn place_of(frame: Head) -> usize {
+fn place_of(frame: Head) -> usize
+    ensures { result < 61_440 }
+{
     usize::from(frame.to) % REPLICAS * WINDOW + (frame.number % WINDOW as u64) as usize
 }
 
@@ -191,7 +205,9 @@ impl Repeats {
 
     /// Returns how long ago the frame was sent that was expected and is acknowledged now. `None` if none is, or if it was
     /// sent more than once: then the acknowledgement may be that of either.
-    fn time_to(&self, ack: Head, now: u64) -> Option<u64> {
+    fn time_to(&self, ack: Head, now: u64) -> Option<u64>
+        ensures { IfSome result (λ took. WentOnceBelow ack.from ack.epoch ack.number now took self.now.last.items) }
+    {
         let expected = self.expected.get(usize::from(ack.from))?;
         if expected.epoch != ack.epoch || ack.number <= expected.next {
             return None;
@@ -239,7 +255,9 @@ impl Repeats {
     }
 
     /// Returns how a frame stands to the one that its receiver expects, and what its acknowledgements take.
-    fn need(&self, frame: Head) -> (Need, u64) {
+    fn need(&self, frame: Head) -> (Need, u64)
+        ensures { (e : Expected) → slice_get self.now.expected.items frame.to ≡ Some e → IsNeed result.0 frame.epoch frame.number e × (result.1 ≡ e.delay) }
+    {
         match self.expected.get(usize::from(frame.to)) {
             Some(expected) => (expected.need(frame.epoch, frame.number), expected.delay),
             None => (Need::Unknown, 0),

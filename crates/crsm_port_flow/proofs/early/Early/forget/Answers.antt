@@ -1,9 +1,7 @@
-use Rattle.std.proofs.Common.{◌≡◌, ◌-◌, Option, List, Some, None, ap, arith, refl, slice_index_or, subst, sym}
-use Rattle.crsm_port_flow.proofs.Earlies.{counts_fewer, counts_same, set_none}
+use Rattle.std.proofs.Common.{◌≡◌, Option, List, Some, None, arith, refl, slice_index_or, subst, sym}
+use Rattle.crsm_port_flow.proofs.Earlies.{set_none}
 use Rattle.crsm_port_flow.proofs.Pasts.{all_gone, loses_more, none_more, none_still}
 use Rattle.crsm_port_flow.specs.Early.{LosesBelow}
-use Rattle.crsm_port_flow.specs.Rooms.{Counts, size_of}
-use Rattle.crsm_port_flow.specs.declared.datagram.Room.{Room}
 use Rattle.crsm_port_flow.specs.declared.early.Frame.{Frame}
 use Rattle.crsm_port_flow.proofs.early.Early.forget.Goals as goal
 use Rattle.crsm_port_flow.proofs.early.Early.forget.Goals.{in-Some, in_default}
@@ -13,19 +11,13 @@ loop-number-preserved c =
     let inv = c.loop-number.invariant in
     let of = c.args.of in
     let least = c.args.least in
-    let before = c.loop-number.room in
-    let room = c.match-take_below.room in
     let old = c.loop-number.self.frames.items in
     let new = c.take_below.new.frames.items in
     elim c.match-take_below.branch [
       | in-Some w ↦
-          let (one, gone) = w.in-Some.ensures.gone in
-          let d = w.in-Some.datagram in
-          let back : (room.count ≡ before.count - 1) × (room.size ≡ before.size - size_of d) = subst (λ (r : Room). (r.count ≡ before.count - 1) × (r.size ≡ before.size - size_of d)) (sym w.room-is) w.take_back.ensures in
+          let gone = w.in-Some.ensures.gone refl in
           record {
             only = λ k f at. inv.only k f (set_none old c.place_of.result k f (subst (λ (xs : List (Option Frame)). slice_index_or xs k None ≡ Some f) gone at));
-            room = λ others sizes counts. counts_fewer before room d old new others sizes one back (inv.room others sizes counts);
-            no_more = omega (arith, back.0);
             links = inv.links;
             lost = loses_more of least c.args.self.now.frames.items old new c.place_of.result gone (w.in-Some.ensures.was refl) inv.lost;
             gone = none_more of least old new c.place_of.result c.loop-number.number c.place_of.ensures.place (omega (arith, c.place_of.ensures.within, c.loop-number.self.wide)) gone inv.gone;
@@ -34,8 +26,6 @@ loop-number-preserved c =
           let same = w.in_default.ensures.none refl in
           record {
             only = λ k f at. inv.only k f (subst (λ (xs : List (Option Frame)). slice_index_or xs k None ≡ Some f) same at);
-            room = λ others sizes counts. subst (λ (r : Room). Counts r others sizes new) (sym w.room-is) (counts_same before old new others sizes same (inv.room others sizes counts));
-            no_more = omega (arith, ap (λ (r : Room). r.count) w.room-is);
             links = inv.links;
             lost = subst (λ (xs : List (Option Frame)). LosesBelow of least c.args.self.now.frames.items xs) (sym same) inv.lost;
             gone = none_still of least old new c.place_of.result c.loop-number.number c.place_of.ensures.place same (w.in_default.ensures.above refl) inv.gone;

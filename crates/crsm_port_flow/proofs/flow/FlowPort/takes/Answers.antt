@@ -5,7 +5,7 @@ use Rattle.crsm_port_flow.proofs.Keepings.{clients_kept, peers_kept}
 use Rattle.crsm_port_flow.specs.Followed.{IsFollowed}
 use Rattle.crsm_port_flow.specs.Hears.{AreKnownBy}
 use Rattle.crsm_port_flow.specs.Kept.{KeepsOnly, kept_in}
-use Rattle.crsm_port_flow.specs.Lost.{MayDrop}
+use Rattle.crsm_port_flow.specs.Lost.{MayDrop, MayLackMemory}
 use Rattle.crsm_port_flow.specs.Same.{SameClients, SamePeers}
 use Rattle.crsm_port_flow.specs.Taken.{Comes, IsAsked, IsTaken}
 use Rattle.crsm_port_flow.specs.Windows.{WindowTakes}
@@ -46,6 +46,15 @@ returns-in-Open-clause-dropped g c = λ err.
     let s = c.args.self.now in
     let same : c.in-Some.bytes.now ≡ take c.args.len s.room.items = grind (arith, common_steps, c.in-Some.ensures.lookup, c.deref.ensures.value) in
     subst (λ (b : List ℕ). MayDrop c.args.from b s.hearing.peers.items s.inbound) same (inl (c.in-Open.ensures.peer refl, c.take_in.ensures.dropped err))
+
+pub returns-in-Open-clause-no_memory : goal.returns-in-Open-clause-no_memory
+returns-in-Open-clause-no_memory g c = λ err.
+    let s = c.args.self.now in
+    let same : c.in-Some.bytes.now ≡ take c.args.len s.room.items = grind (arith, common_steps, c.in-Some.ensures.lookup, c.deref.ensures.value) in
+    subst (λ (b : List ℕ). MayLackMemory c.args.from b s.hearing.peers.items s.inbound) same (λ _. c.take_in.ensures.no_memory err)
+
+pub returns-in-Stranger-clause-no_memory : goal.returns-in-Stranger-clause-no_memory
+returns-in-Stranger-clause-no_memory g c = λ _ is. absurd (c.in-Stranger.ensures.stranger refl is)
 
 pub returns-in-Stranger-clause-comes : goal.returns-in-Stranger-clause-comes
 returns-in-Stranger-clause-comes g c =

@@ -1,10 +1,8 @@
 use Rattle.std.proofs.Common.{◌≡◌, ◌++◌, ℕ, List}
-use Rattle.std.specs.List.{sum_by}
 use Rattle.crsm_port.specs.Passing.{NoMore}
-use Rattle.crsm_port_flow.specs.Early.{AreFrames, Expects, KeepsSome}
+use Rattle.crsm_port_flow.specs.Early.{AreFrames, Expects, KeepsSome, frames_in}
 use Rattle.crsm_port_flow.specs.Followed.{NoneLost}
 use Rattle.crsm_port_flow.specs.Kept.{of_peers}
-use Rattle.crsm_port_flow.specs.Rooms.{frames_at}
 use Rattle.crsm_port_flow.specs.Taken.{StaysReady}
 use Rattle.crsm_port_flow.specs.declared.datagram.Datagram.{Datagram}
 use Rattle.crsm_port_flow.proofs.peers.FromPeers.follow.Given as goal
@@ -20,4 +18,4 @@ invariant-loop-datagram l = record {
 }
 
 abbrev pub decreases-loop-datagram : goal.decreases-loop-datagram
-decreases-loop-datagram l = sum_by frames_at l.self.early.frames.items
+decreases-loop-datagram l = frames_in l.self.early.frames.items

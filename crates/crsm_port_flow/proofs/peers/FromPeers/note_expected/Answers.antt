@@ -1,15 +1,13 @@
-use Rattle.std.proofs.Common.{arith, length}
-use Rattle.crsm_port_flow.proofs.Earlies.{peers_rest}
+use Rattle.std.proofs.Common.{arith}
+use Rattle.crsm_port_flow.proofs.Earlies.{frames_fewer, peers_rest}
 use Rattle.crsm_port_flow.proofs.Pasts.{is_expected, loses_past}
-use Rattle.crsm_port_flow.specs.Rooms.{sizes_of}
 use Rattle.crsm_port_flow.proofs.peers.FromPeers.note_expected.Goals as goal
 
 pub invariant_of-self : goal.invariant_of-self
 invariant_of-self c =
     let p = c.args.self.now in
     record {
-      counted = c.note_expected.ensures.room (length p.ready.items) (sizes_of p.ready.items) p.counted;
-      few = omega (arith, c.note_expected.ensures.no_more, p.few);
+      few = omega (arith, frames_fewer p.early.frames.items c.note_expected.new.self.frames.items c.note_expected.ensures.only, p.few);
       reserved = p.reserved;
     }
 

@@ -18,8 +18,8 @@ pub returns-in-Waits-clause-dropped : goal.returns-in-Waits-clause-dropped
 returns-in-Waits-clause-dropped c = λ err.
     let f = c.args.frame in
     elim (c.take_early.ensures.dropped err) [
-      | inl full ↦ inl full
-      | inr other ↦ inr (f.from, f.to, f.epoch, f.number, c.requires.head, c.in-Waits.ensures.early waits_later, (other, c.in-Waits.ensures.waits refl))
+      | inl long ↦ (f.from, f.to, f.epoch, f.number, c.requires.head, c.in-Waits.ensures.early waits_later, inr long)
+      | inr other ↦ (f.from, f.to, f.epoch, f.number, c.requires.head, c.in-Waits.ensures.early waits_later, inl (other, c.in-Waits.ensures.waits refl))
     ]
 
 pub returns-in-Waits-clause-followed : goal.returns-in-Waits-clause-followed
