@@ -1,0 +1,9 @@
+mod Steps
+mod Items
+mod Sending
+mod Values
+mod Sizes
+mod Names
+mod Shown
+mod Law
+mod Example
