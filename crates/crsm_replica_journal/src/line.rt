@@ -176,7 +176,7 @@ impl Display for Line {
             ),
             Line::Room { percent, bytes } => write!(
                 f,
-                "the log has {bytes} bytes, {percent} % of what it can have"
+                "the log has {bytes} bytes, over {percent} % of what it can have"
             ),
             Line::Refused { count, time, last } => write!(
                 f,

@@ -6,7 +6,7 @@ use crate::line::Line;
 const MOST: u64 = 1 << 32;
 
 /// The parts of it, in percent, at which something is said.
-static MARKS: [u64; 4] = [50, 75, 90, 95];
+static MARKS: [u64; 5] = [50, 75, 90, 95, 99];
 
 /// The length of the log in bytes, that of the records that are not written yet, and the last mark that was passed.
 #[derive(Clone, Copy)]

@@ -11,6 +11,24 @@ pub(crate) struct Help {
     pub(crate) details: &'static str,
 }
 
+/// Returns the texts of a command, or those of the program if no command has this name.
+pub(crate) fn help_of(command: &str) -> Help {
+    match command {
+        "node" => NODE,
+        "client" => CLIENT,
+        "operate" => OPERATE,
+        "lock" => LOCK,
+        "replay" => REPLAY,
+        "replay-mp" => REPLAY_MP,
+        "replay-node" => REPLAY_NODE,
+        "dump" => DUMP,
+        "audit" => AUDIT,
+        "soak" => SOAK,
+        "delay" => DELAY,
+        _ => PRODUCT,
+    }
+}
+
 /// What the program's own help says of all commands.
 pub(crate) const PRODUCT: Help = Help {
     about: "A replicated key-value store",
@@ -34,7 +52,7 @@ pub(crate) const NODE: Help = Help {
   PEERS   the addresses of nodes 0, 1, .., as IPv4:PORT with commas between: at least N, and at most 15
 
 The node listens at its own address and keeps its log in the file crsm-ME.log of the folder that it is started in.
-Standard output gets its sheet, what it took at each turn, some 120 KB a second: send it to a file or to /dev/null.
+Standard output gets its sheet, what it took at each turn, some 30 KB a second: send it to a file or to /dev/null.
 
 Example, the first of three nodes:
   crsm node 0 3 1000000000000 10.0.0.1:7000,10.0.0.2:7000,10.0.0.3:7000 > /dev/null",
@@ -155,7 +173,7 @@ pub(crate) const DELAY: Help = Help {
     about: "Reckons when a command commits between sites with given delays",
     usage: "crsm delay [times] < PLAN",
     details: "Writes the schedule of the command's way, which replay runs; with 'times', when each site executes it, in
-microseconds.
+the unit of the plan.
 
 Example:
   crsm delay times < examples/five_regions.plan",

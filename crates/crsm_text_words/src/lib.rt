@@ -6,6 +6,7 @@ mod command;
 mod help;
 mod order;
 mod read;
+mod refusal;
 mod tasks;
 mod usage;
 mod values;

@@ -142,8 +142,13 @@ fn order_of(cluster: u64, task: Task) -> Result<Order, WordsError>
     }
 }
 
+/// Returns whether the command with this name may be asked for in a cluster.
+pub(crate) fn may_be_in_cluster(command: &str) -> bool {
+    matches!(command, "node" | "client" | "operate")
+}
+
 /// Parses the number of a cluster, at least 1, or returns `None`.
-fn cluster_number(word: &str) -> Option<u64>
+pub(crate) fn cluster_number(word: &str) -> Option<u64>
     ensures found { IfSome result (λ n. (0 < n) × (n < 2 ^ 64) × (word.now ≡ decimal n)) }
     ensures only { (n : ℕ) → 0 < n → n < 2 ^ 64 → word.now ≡ decimal n → result ≡ Some n }
 {
