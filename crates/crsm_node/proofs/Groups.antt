@@ -11,7 +11,7 @@ all_append P (x ∷ xs) ys h k = (h.0, all_append P xs ys h.1 k)
 -- these turns may be followed by others in their group
 pub record AreOpen (ts : List (Turn × ℕ)) : Type 0 where
   pub datagrams : AllByRecursion IsDatagram ts
-  pub few : length ts < 32
+  pub few : length ts < 256
 
 pub none_open : AreOpen []
 none_open = record { datagrams = tt; few = omega arith }
@@ -20,7 +20,7 @@ none_open = record { datagrams = tt; few = omega arith }
 abbrev pub group_of : (ts : List (Turn × ℕ)) (t : Turn × ℕ) → AreOpen ts → IsGroup (ts ++ t ∷ [])
 group_of ts t open_ = record { before = ts; last = t; are = refl; datagrams = open_.datagrams; few = open_.few }
 
-pub open_more : (ts : List (Turn × ℕ)) (t : Turn × ℕ) → AreOpen ts → IsDatagram t → length (ts ++ t ∷ []) < 32 → AreOpen (ts ++ t ∷ [])
+pub open_more : (ts : List (Turn × ℕ)) (t : Turn × ℕ) → AreOpen ts → IsDatagram t → length (ts ++ t ∷ []) < 256 → AreOpen (ts ++ t ∷ [])
 open_more ts t open_ is few = record { datagrams = all_append IsDatagram ts (t ∷ []) open_.datagrams (is, tt); few = few }
 
 -- some turns are all but the last one, and this

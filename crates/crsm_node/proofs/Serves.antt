@@ -395,7 +395,7 @@ stage_ends r w start now text taken most s is =
 
 -- a turn was taken, and others may be kept with it
 pub stage_goes_on : (r : Replica) (w : Watch) (start now next : Node) (text printed : List ℕ) (taken most : ℕ) (s : Stage r w start now text taken most) → taken < most → (t : Turn × ℕ) →
-    Pends r w start next printed s.groups (s.ts ++ t ∷ []) → IsDatagram t → length (s.ts ++ t ∷ []) < 32 → most - taken - 1 ≢ 0 → Stage r w start next printed (taken + 1) most
+    Pends r w start next printed s.groups (s.ts ++ t ∷ []) → IsDatagram t → length (s.ts ++ t ∷ []) < 256 → most - taken - 1 ≢ 0 → Stage r w start next printed (taken + 1) most
 stage_goes_on r w start now next text printed taken most s below t h is few left =
     let kept = kept_turns s.groups in
     let was = s.count in
@@ -413,7 +413,7 @@ stage_goes_on r w start now next text printed taken most s below t h is few left
 
 -- a turn was taken, and the group that ends with it is kept
 pub stage_keeps : (r : Replica) (w : Watch) (start now next : Node) (text printed : List ℕ) (taken most : ℕ) (s : Stage r w start now text taken most) → taken < most → (t : Turn × ℕ) → (fates : List Bool) →
-    Pends r w start next printed (s.groups ++ (record { turns = s.ts ++ t ∷ []; fates = fates }) ∷ []) [] → ((IsDatagram t → ⊥) ⊎ ((most - taken - 1 ≡ 0) ⊎ (32 ≤ length (s.ts ++ t ∷ [])))) →
+    Pends r w start next printed (s.groups ++ (record { turns = s.ts ++ t ∷ []; fates = fates }) ∷ []) [] → ((IsDatagram t → ⊥) ⊎ ((most - taken - 1 ≡ 0) ⊎ (256 ≤ length (s.ts ++ t ∷ [])))) →
     Stage r w start next printed (taken + 1) most
 stage_keeps r w start now next text printed taken most s below t fates h why =
     let kept = kept_turns s.groups in

@@ -202,11 +202,11 @@ devices_of disk port clock written faults d p c o =
 abbrev pub over_cluster : ℕ → Framing → Devices → Devices
 over_cluster cluster framing devices = record devices { port = record (clustered cluster 0 devices.port) { framing = over cluster framing } }
 
--- memory ran out before the node began
+-- memory ran out before the node began: nothing was received or sent, and all devices are as they were
 abbrev pub NotBegun : Devices → Devices → NodeEnd → Type 0
 NotBegun old new end =
     (end ≡ ends.NoMemory) × Goes old.disk new.disk × (new.disk.seen ≡ old.disk.seen) × ((c : List ℕ) → new.disk.may_leave c → old.disk.may_leave c) × (new.clock ≡ old.clock)
-    × (new.sheet ≡ old.sheet)
+    × (new.sheet ≡ old.sheet) × (new.port ≡ old.port)
 
 -- The traffic of the cluster's port went over the port below with its framing, and its losses are those of the port below.
 abbrev pub RunsNumbered : NodeOrder → Devices → Devices → NodeEnd → Type 0

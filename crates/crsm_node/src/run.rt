@@ -57,7 +57,7 @@ fn run_numbered<P: Port, D: Disk, C: Clock, O: Sink, R: Reporter>(
 {
     let mut over = match ClusterPort::new(alloc, &mut *port, order.cluster) {
         Ok(over) => over,
-        Err(why) => return NodeEnd::from(why),
+        Err((why, _port)) => return NodeEnd::from(why),
     };
     let end = run_over(alloc, order, &mut over, disk, clock, sheet, reporter);
     let _port = over.into_inner();

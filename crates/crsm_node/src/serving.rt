@@ -19,7 +19,7 @@ use crsm_shell::Shell;
 use std::alloc::Global;
 
 /// Takes `turns` turns, each with the input that the detector wants, and flushes them in groups: a group ends with a
-/// turn that took no datagram, with 32 turns, or with the last turn. Once a group is durable its datagrams are sent,
+/// turn that took no datagram, with 256 turns, or with the last turn. Once a group is durable its datagrams are sent,
 /// and then its lines are written. The reporter receives each turn, and each group once it is durable. No step may be
 /// pending at the call, and the detector is that of the same replica.
 ///
@@ -73,8 +73,8 @@ pub fn serve<C: Clock, P: Port, D: Disk, O: Sink, R: Reporter>(
 
 /// Returns whether a group ends after a turn, with `left` turns left and `pending` pending.
 fn ends_group(took_datagram: bool, left: u64, pending: u32) -> bool
-    ensures yes { result ≡ true → (took_datagram ≡ false) ⊎ ((left ≡ 0) ⊎ (32 ≤ pending)) }
-    ensures no { result ≡ false → (took_datagram ≡ true) × (left ≢ 0) × (pending < 32) }
+    ensures yes { result ≡ true → (took_datagram ≡ false) ⊎ ((left ≡ 0) ⊎ (256 ≤ pending)) }
+    ensures no { result ≡ false → (took_datagram ≡ true) × (left ≢ 0) × (pending < 256) }
 {
     !took_datagram || left == 0 || pending >= MOST_PENDING
 }

@@ -24,7 +24,7 @@ use crsm_replica_detector::{Detector, inputs_are_wished, turns_are_watched};
 use crsm_shell::{ReceivedInput, Shell, TurnResult, WantedInput};
 
 /// Maximum number of turns in a group.
-pub(crate) const MOST_PENDING: u32 = 32;
+pub(crate) const MOST_PENDING: u32 = 256;
 
 /// Takes the turn that the detector wants, reports it, and appends its line to those of the pending turns. Returns
 /// whether it took a datagram.
@@ -36,7 +36,7 @@ pub(crate) fn take_turn<C: Clock, P: Port, D: Disk, R: Reporter>(
     pending: &mut PendingTurns,
     reporter: &mut R,
 ) -> Result<bool, NodeError>
-    requires { pending_of shell.old < 32 }
+    requires { pending_of shell.old < 256 }
     ensures took { WhereStands D.meaning shell.old (λ kept r steps. WhereWatches detector.old (λ me w. me ≡ r.me → IfOk result (λ is_datagram.
         TakesTurn shell.new (D.meaning (disk_of shell.new)) detector.new (C.readings clock.old) (C.readings clock.new) (P.meaning port.old) (P.meaning port.new) pending.old.lines pending.new.lines is_datagram kept r steps w))) }
     ensures failed { WhereStands D.meaning shell.old (λ kept r steps. WhereWatches detector.old (λ me w. me ≡ r.me → IfErr result

@@ -32,7 +32,7 @@ impl<D: Disk> Shell<D> {
         clock: &mut C,
         port: &mut P,
     ) -> Result<TurnResult, TurnError>
-        requires few { pending_of self.old < 32 }
+        requires few { pending_of self.old < 256 }
 
         // The step of the definitions, after the pending ones.
         ensures stands { WhereStands D.meaning self.old (λ kept r steps. IfOk result (TakesStep self.new (D.meaning (disk_of self.new)) kept r steps)) }
@@ -83,7 +83,7 @@ impl<D: Disk> Shell<D> {
     /// Runs the step of the input, and returns its result with the length in bytes of its records.
     fn step(&mut self, taken: &ReceivedInput, reading: u64) -> Result<(StepResult, u64), NoMemory>
         requires well { self.old.failed ≡ false }
-        requires few { self.old.pending < 32 }
+        requires few { self.old.pending < 256 }
         requires within { IsWithin most_received taken.now }
         ensures stands { WhereStands D.meaning self.old (λ kept r steps. IfOk result (λ b. MakesStep self.new (D.meaning (disk_of self.new)) kept r steps (step_at (buffer_of self.new) taken.now reading r) b.0.batch b.1)) }
         ensures spelt { IfOk result (λ b. AllByRecursion FitsSent b.0.batch.sends) }

@@ -31,7 +31,7 @@ impl<D: Disk> Shell<D> {
         clock: &mut C,
         port: &mut P,
     ) -> Result<TurnResult, TurnError>
-        requires few { pending_of self.old < 32 }
+        requires few { pending_of self.old < 256 }
 
         // The step of the definitions, durable with those before it.
         ensures stands { WhereStands D.meaning self.old (λ kept r steps. IfOk result (KeepsStep self.new (D.meaning (disk_of self.new)) r)) }

@@ -9,17 +9,17 @@ IsDatagram (Turn.In address bytes, reading) = Unit {0}
 IsDatagram (Turn.Tick, reading) = ⊥
 IsDatagram (Turn.Suspect members, reading) = ⊥
 
--- One to 32 turns; each but the last has a datagram as its input.
+-- One to 256 turns; each but the last has a datagram as its input.
 pub record IsGroup (turns : List (Turn × ℕ)) : Type 0 where
   pub before : List (Turn × ℕ)
   pub last : Turn × ℕ
   pub are : turns ≡ before ++ last ∷ []
   pub datagrams : AllByRecursion IsDatagram before
-  pub few : length before < 32
+  pub few : length before < 256
 
--- no further turn joins the group: it has 32, or its last input is no datagram
+-- no further turn joins the group: it has 256, or its last input is no datagram
 abbrev pub IsClosed : {turns : List (Turn × ℕ)} → IsGroup turns → Type 0
-IsClosed {turns} g = (length turns ≡ 32) ⊎ (IsDatagram g.last → ⊥)
+IsClosed {turns} g = (length turns ≡ 256) ⊎ (IsDatagram g.last → ⊥)
 
 -- the turns are cut into these groups in order; each but the last is closed
 abbrev pub AreGroups : List (List (Turn × ℕ)) → Type 0

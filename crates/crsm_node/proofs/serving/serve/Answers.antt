@@ -101,11 +101,11 @@ joined Q a a' b b' x x' e e' one two three four h =
     subst (λ y. Q y b x e) (sym one) (subst (λ y. Q a' y x e) (sym two) (subst (λ y. Q a' b' y e) (sym three) (subst (λ y. Q a' b' x' y) (sym four) h)))
 
 -- why a group ends
-reason : (ts : List (Turn × ℕ)) (t : Turn × ℕ) (took : Bool) (left pending : ℕ) → (IsTrue took ↔ IsDatagram t) → pending ≡ length (ts ++ t ∷ []) → (took ≡ false) ⊎ ((left ≡ 0) ⊎ (32 ≤ pending)) →
-    (IsDatagram t → ⊥) ⊎ ((left ≡ 0) ⊎ (32 ≤ length (ts ++ t ∷ [])))
+reason : (ts : List (Turn × ℕ)) (t : Turn × ℕ) (took : Bool) (left pending : ℕ) → (IsTrue took ↔ IsDatagram t) → pending ≡ length (ts ++ t ∷ []) → (took ≡ false) ⊎ ((left ≡ 0) ⊎ (256 ≤ pending)) →
+    (IsDatagram t → ⊥) ⊎ ((left ≡ 0) ⊎ (256 ≤ length (ts ++ t ∷ [])))
 reason ts t took left pending kind are (inl none) = inl (λ is. both took (kind.1 is) none)
 reason ts t took left pending kind are (inr (inl last)) = inr (inl last)
-reason ts t took left pending kind are (inr (inr many)) = inr (inr (subst (λ n. 32 ≤ n) are many))
+reason ts t took left pending kind are (inr (inr many)) = inr (inr (subst (λ n. 256 ≤ n) are many))
 
 pub loop-turn-preserved : goal.loop-turn-preserved
 loop-turn-preserved g c =
@@ -159,7 +159,7 @@ loop-turn-preserved g c =
             let many = c.pending.ensures.steps q.log (replica_after r after) steps h.stands ∙ count_outputs q (s.ts ++ k.t ∷ []) in
             let open_ = c.ends_group.ensures.no v.if-ends_group.false in
             joined (Next r w) _ _ _ _ _ _ _ _ v.shell-is v.port-is v.sheet-is v.pending-is
-            (stage_goes_on r w start now _ c.loop-turn.pending.lines c.take_turn.new.pending.lines turn c.args.turns s below k.t h (k.kind.0 open_.0) (subst (λ n. n < 32) many open_.2) open_.1);
+            (stage_goes_on r w start now _ c.loop-turn.pending.lines c.take_turn.new.pending.lines turn c.args.turns s below k.t h (k.kind.0 open_.0) (subst (λ n. n < 256) many open_.2) open_.1);
       }
     ]
 

@@ -12,6 +12,6 @@ invariant-loop-turn g l =
     let now = node_of g.D.Disk.meaning g.P.Port.meaning g.C.Clock.readings g.O.Sink.written g.O.Sink.faults l.shell l.detector l.port l.clock l.sheet in
     record {
       well : has_failed l.shell ≡ false;
-      few : pending_of l.shell < 32;
+      few : pending_of l.shell < 256;
       stage : WhereIdle start (λ (r : Replica) (w : Watch). Stage r w start now l.pending.lines l.turn l.turns);
     }
