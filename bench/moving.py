@@ -5,7 +5,7 @@
 starts three nodes, at which a client does C commands that are drawn from the seed and another client takes a lock. The
 writers stop, the log of the node with the longest executed list is dumped, and three new nodes get the keys, in two
 loads of which the first has half of them. Then the new nodes have every key that was answered, the dump of a new node
-has the lines of the old one, and the lock has its holder and its fence.
+has the lines of the old one, and the lock has its holder and its fence. Last, 5,000 other keys are loaded, twice.
 
 With `--limited` the old nodes run OTHER, a build of the program in which MAX_LOG_BYTES of `crsm_base` is some 100,000:
 the client writes until each node has ended with status 11, and the same is looked at. Ends with 0 where all is so, with
@@ -31,6 +31,7 @@ from nodes import Node, free_addresses, text_of  # noqa: E402
 NODES = 3
 KEYS = [f"key-{at}".encode() for at in range(60)]
 WRITER, HOLDER, OTHER, ASKER = 7, 8, 9, 10
+MANY = 5000
 LOG_FULL = 11
 WITHIN = 60.0
 
@@ -142,15 +143,24 @@ def move(program: str, folder: str, old: Cluster, writer: Writer, fence: int) ->
         new.start()
         expect(loaded(new, folder, keys[:half]), f"{half} keys put, 0 there already, 0 with another value")
         rest = len(keys) - half
-        expect(loaded(new, folder, lines), f"{rest} keys put, {half} there already, 0 with another value")
+        counted = [*lines, f"keys {len(keys)}"]
+        expect(loaded(new, folder, counted), f"{rest} keys put, {half} there already, 0 with another value")
         with new.client(ASKER, new.addresses[:1]) as store:
             writer.compare(store)
         if dumped(program, new.nodes[0], ["keys"]) != keys:
             raise Wrong("the keys of the new node's dump are not those of the old one")
         see_lock(new, fence)
+        see_many(new, folder)
     finally:
         new.stop()
     return f"{len(keys)} keys"
+
+
+def see_many(new: Cluster, folder: str) -> None:
+    """So many keys are loaded that each client's file is written more than once; loaded again, nothing is missing."""
+    lines = [f"key {at:08x} 61" for at in range(MANY)]
+    expect(loaded(new, folder, lines), f"{MANY} keys put, 0 there already, 0 with another value")
+    expect(loaded(new, folder, lines), f"0 keys put, {MANY} there already, 0 with another value")
 
 
 def see_lock(new: Cluster, fence: int) -> None:

@@ -11,7 +11,7 @@
             ...                                   # each request to what it guards carries the fence
 
 Every command is done once at most, however often its request had to be sent. `crsm.aio` has the same for asyncio, and
-`python3 -m crsm` is for shells.
+`python3 -m crsm`, or `crsm-client` where the package is installed, is for shells.
 """
 
 from .client import Client, Lock
@@ -31,6 +31,8 @@ from .errors import (
 )
 from .numbers import KeptNumbers, Numbers
 from .protocol import Cas
+
+__version__ = "1.0"
 
 __all__ = [
     "Cas",

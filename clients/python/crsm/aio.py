@@ -15,12 +15,25 @@ from collections.abc import Generator, Iterable, Sequence
 from dataclasses import dataclass, field
 from typing import Self, TypeVar
 
+from .arguments import seconds
 from .client import ASKED_AGAIN
 from .errors import CrsmError, LockHeld, NoAnswer, NotMembers, Refused
 from .exchange import Exchange, Session, Times, why_silent
 from .locks import Patience, Terms, given, granted, lock_key
 from .numbers import Numbers
-from .protocol import DATAGRAM_BYTES, Address, Answer, Bytes, Cas, Operation, cas_of, delete_of, get_of, put_of
+from .protocol import (
+    DATAGRAM_BYTES,
+    Address,
+    Answer,
+    Bytes,
+    Cas,
+    Operation,
+    cas_of,
+    chosen_of,
+    delete_of,
+    get_of,
+    put_of,
+)
 
 __all__ = ["AsyncClient", "AsyncLock"]
 
@@ -164,7 +177,8 @@ class AsyncClient:
         self, members: Iterable[int], *, via: int | None = None, sure: bool = False, timeout: float = 20.0
     ) -> None:
         """Changes the cluster's members to these numbers, as `Client.reconfigure` does."""
-        chosen = sorted(set(members))
+        chosen = chosen_of(members)
+        seconds("timeout", timeout)
         self.request_members(chosen, via=via, sure=sure)
         await asyncio.sleep(ASKED_AGAIN)
         self.request_members(chosen, via=via, sure=sure)

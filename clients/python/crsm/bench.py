@@ -7,7 +7,6 @@ from collections.abc import Sequence
 from typing import NamedTuple
 
 from .aio import AsyncClient
-from .numbers import Numbers
 
 
 class Figures(NamedTuple):
@@ -22,16 +21,11 @@ class Figures(NamedTuple):
         return f"{self.rate:,.0f} commands a second; median {median:.2f} ms, 99 % within {slow:.2f} ms"
 
 
-def measure(
-    nodes: Sequence[str], clients: Sequence[Numbers], seconds: float, size: int, cluster: int, timeout: float | None
-) -> Figures | None:
+def measure(stores: Sequence[AsyncClient], seconds: float, size: int) -> Figures | None:
     """Has each client put values of `size` bytes at a key of its own, `bench-0` and so on, for some seconds, and delete
     it. Returns the figures, or None where no command was answered."""
 
     async def all_of_them() -> list[list[float]]:
-        # Each client begins at another node.
-        turned = [[*nodes[at % len(nodes) :], *nodes[: at % len(nodes)]] for at in range(len(clients))]
-        stores = [AsyncClient(of, cluster=cluster, client=it, timeout=timeout) for of, it in zip(turned, clients)]
         return await asyncio.gather(*(_times(store, f"bench-{at}", seconds, size) for at, store in enumerate(stores)))
 
     took = sorted(time for times in asyncio.run(all_of_them()) for time in times)
@@ -43,12 +37,11 @@ def measure(
 async def _times(store: AsyncClient, key: str, seconds: float, size: int) -> list[float]:
     """Returns how many seconds each command of one client took."""
     took: list[float] = []
-    async with store:
-        with contextlib.suppress(TimeoutError):
-            async with asyncio.timeout(seconds):
-                while True:
-                    began = time.monotonic()
-                    await store.put(key, b"v" * size)
-                    took.append(time.monotonic() - began)
-        await store.delete(key)
+    with contextlib.suppress(TimeoutError):
+        async with asyncio.timeout(seconds):
+            while True:
+                began = time.monotonic()
+                await store.put(key, b"v" * size)
+                took.append(time.monotonic() - began)
+    await store.delete(key)
     return took

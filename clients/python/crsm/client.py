@@ -6,11 +6,24 @@ import time
 from collections.abc import Generator, Iterable, Sequence
 from typing import Self, TypeVar
 
+from .arguments import seconds
 from .errors import CrsmError, LockHeld, NoAnswer, NotMembers, Refused
 from .exchange import Exchange, Session, Times, why_silent
 from .locks import Patience, Terms, given, granted, lock_key
 from .numbers import Numbers
-from .protocol import DATAGRAM_BYTES, Address, Answer, Bytes, Cas, Operation, cas_of, delete_of, get_of, put_of
+from .protocol import (
+    DATAGRAM_BYTES,
+    Address,
+    Answer,
+    Bytes,
+    Cas,
+    Operation,
+    cas_of,
+    chosen_of,
+    delete_of,
+    get_of,
+    put_of,
+)
 
 T = TypeVar("T")
 
@@ -82,7 +95,7 @@ class Client:
     nodes        addresses of IPv4, each as "HOST:PORT" or as (host, port)
     cluster      the cluster's number, if several share the network
     client       the client's number, which must be this client's alone, or `KeptNumbers`; by default a random one
-    timeout      how many seconds a command may take, None for no end
+    timeout      how many seconds a command may take, 0 or None for no end
     node_timeout how many seconds a node is asked before the next one is
     resend       after how many seconds a request is sent again, at least 0.1
 
@@ -161,7 +174,8 @@ class Client:
         Raises `NotMembers` where one of them has not answered within `timeout` seconds. Members without an address here
         are not asked. Takes a second at least, and holds up the commands of other threads.
         """
-        chosen = sorted(set(members))
+        chosen = chosen_of(members)
+        seconds("timeout", timeout)
         self.request_members(chosen, via=via, sure=sure)
         time.sleep(ASKED_AGAIN)
         self.request_members(chosen, via=via, sure=sure)
@@ -173,8 +187,9 @@ class Client:
             raise NotMembers(seen)
 
     def look(self, timeout: float = 1.0) -> dict[int, str | None]:
-        """Gets a key at each node alone, for `timeout` seconds at most, and returns why each has not answered, in words,
-        or None where it has: that one takes part in the cluster."""
+        """Gets a key at each node alone, for `timeout` seconds at most, and returns why each has not answered, in
+        words, or None where it has: that one takes part in the cluster."""
+        seconds("timeout", timeout)
         nodes = range(len(self._session.nodes))
         return {number: self._why_silent(number, time.monotonic() + timeout) for number in nodes}
 
@@ -199,7 +214,8 @@ class Client:
         return Lock(self, key, Terms(wait=wait))
 
     def break_lock(self, key: Bytes, *, fence: int | None = None) -> Lock:
-        """Returns the same lock, which is taken from whoever holds it. With `fence` only from the holder by that grant.
+        """Returns the same lock, which is taken from whoever holds it, by a new grant. With `fence` only from the
+        holder by that grant. Where nobody holds it, it is taken as by `lock`; where this client does, its grant stays.
 
         The holder is not asked, and may still act on what the lock guards: that is what fences are for.
         """

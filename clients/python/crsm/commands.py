@@ -1,4 +1,4 @@
-"""Commands for a shell: `python3 -m crsm COMMAND ..`."""
+"""Commands for a shell: `python3 -m crsm COMMAND ..`, or `crsm-client COMMAND ..` where the package is installed."""
 
 import argparse
 import contextlib
@@ -10,14 +10,20 @@ from collections.abc import Callable, Iterator, Sequence
 from enum import IntEnum
 from pathlib import Path
 from types import FrameType
+from typing import TYPE_CHECKING, Any
 
+from . import __version__
 from .client import Client, Lock
 from .errors import CrsmError, InUse, LockLost, NoAnswer, NotMembers, Refused
 from .exchange import doubts
 from .locks import Terms
 from .numbers import KeptNumbers
 
-PROGRAM = "python3 -m crsm"
+if TYPE_CHECKING:
+    from .aio import AsyncClient
+
+# (as whoever has started it knows it)
+PROGRAM = "crsm-client" if os.path.basename(sys.argv[0]) == "crsm-client" else "python3 -m crsm"
 
 EXAMPLES = f"""
   export CRSM_NODES=10.0.0.1:7000,10.0.0.2:7000,10.0.0.3:7000
@@ -27,10 +33,11 @@ EXAMPLES = f"""
   {PROGRAM} delete colour
   {PROGRAM} lock nightly --wait 60 -- ./report.sh
 
-COMMAND --help says more. The status is 0 where the command was done, 1 where the store says no (the key is missing, its
-value differs, the lock is held, the store is full), 2 for wrong words, 5 for a failed output, 6 where no socket can be
-opened, 7 where the client's number cannot be kept, and 9 where no node answered or each one refused. `lock` ends with
-the status of its command, and with 126 or 127 where that cannot be run.
+COMMAND --help says more. The options above stand before the command or behind it. The status is 0 where the command was
+done, 1 where the store says no (the key is missing, its value differs, the lock is held, the store is full), 2 for
+wrong words, 5 for a failed output, 6 where no socket can be opened or a node's name has no address, 7 where the
+client's number cannot be kept, and 9 where no node answered or each one refused. `lock` ends with the status of its
+command, and with 126 or 127 where that cannot be run.
 """
 
 
@@ -62,7 +69,7 @@ class Failed(Exception):
 def read_words(words: Sequence[str]) -> argparse.Namespace:
     """Reads the words of a command line. What stands behind `--` in `lock` is a command of its own."""
     words, inner = list(words), []
-    if words[:1] == ["lock"] and "--" in words:
+    if _command_of(words) == "lock" and "--" in words:
         at = words.index("--")
         words, inner = words[:at], words[at + 1 :]
     reader = _reader()
@@ -75,15 +82,31 @@ def read_words(words: Sequence[str]) -> argparse.Namespace:
     return read
 
 
+def _command_of(words: Sequence[str]) -> str | None:
+    """Returns the first word behind the options that stand before the command."""
+    reader = argparse.ArgumentParser(add_help=False, exit_on_error=False)
+    _add_common(reader, with_defaults=False)
+    reader.add_argument("rest", nargs=argparse.REMAINDER)
+    try:
+        rest = reader.parse_known_args(words)[0].rest
+    except argparse.ArgumentError:
+        # (the reader of all words says so)
+        return None
+    return rest[0] if rest else None
+
+
 def _reader() -> argparse.ArgumentParser:
     layout = argparse.RawDescriptionHelpFormatter
     reader = argparse.ArgumentParser(PROGRAM, description=__doc__, epilog=EXAMPLES, formatter_class=layout)
+    reader.add_argument("--version", action="version", version=f"crsm-client {__version__}")
+    _add_common(reader, with_defaults=True)
     commands = reader.add_subparsers(metavar="COMMAND", required=True)
 
     def add(run: Callable[[argparse.Namespace], int], text: str) -> argparse.ArgumentParser:
         made = commands.add_parser(run.__name__, help=text, description=f"{text[0].upper()}{text[1:]}.")
         made.set_defaults(run=run)
-        _add_common(made)
+        # (what stands before the command holds where nothing stands behind it)
+        _add_common(made, with_defaults=False)
         return made
 
     add(get, "writes the value of a key").add_argument("key")
@@ -97,18 +120,20 @@ def _reader() -> argparse.ArgumentParser:
     return reader
 
 
-def _add_common(to: argparse.ArgumentParser) -> None:
-    nodes = os.environ.get("CRSM_NODES", "")
+def _add_common(to: argparse.ArgumentParser, *, with_defaults: bool) -> None:
+    """Adds the options of all commands. Without their defaults, one that is not given is not there."""
+
+    def add(name: str, default: object, text: str, **how: Any) -> None:
+        to.add_argument(name, default=default if with_defaults else argparse.SUPPRESS, help=text, **how)
+
     text = "the nodes, that of replica i at place i (CRSM_NODES)"
-    to.add_argument("--nodes", metavar="A:PORT,..", default=nodes, help=text)
-    cluster = os.environ.get("CRSM_CLUSTER", "0")
+    add("--nodes", os.environ.get("CRSM_NODES", ""), text, metavar="A:PORT,..")
     text = "the number of the cluster (CRSM_CLUSTER)"
-    to.add_argument("--cluster", metavar="C", type=int, default=cluster, help=text)
-    text = "seconds for a command, 0 for no end; 10"
-    to.add_argument("--timeout", metavar="S", type=float, default=10.0, help=text)
+    add("--cluster", os.environ.get("CRSM_CLUSTER", "0"), text, metavar="C", type=int)
+    add("--timeout", 10.0, "seconds for a command, 0 for no end; 10", metavar="S", type=float)
     text = "the folder with the numbers of clients; $XDG_STATE_HOME/crsm, or ~/.local/state/crsm"
-    to.add_argument("--state", metavar="FOLDER", type=Path, default=_state_folder(), help=text)
-    to.add_argument("--hex", action="store_true", help="keys and values are hexadecimal")
+    add("--state", _state_folder(), text, metavar="FOLDER", type=Path)
+    add("--hex", False, "keys and values are hexadecimal", action="store_true")
 
 
 def _add_put(to: argparse.ArgumentParser) -> None:
@@ -141,7 +166,8 @@ def _add_load(to: argparse.ArgumentParser) -> None:
 
 def _add_operate(to: argparse.ArgumentParser) -> None:
     to.add_argument("members", help="the numbers of the nodes that are to take part, as 0,1,3")
-    to.add_argument("--via", metavar="NODE", type=int, help="the node that is asked; by default the first that takes part")
+    text = "the node that is asked; by default the first that takes part"
+    to.add_argument("--via", metavar="NODE", type=int, help=text)
     to.add_argument("--sure", action="store_true", help="where some of them do not answer, or no majority stays")
 
 
@@ -236,13 +262,11 @@ def load(words: argparse.Namespace) -> int:
     if words.clients < 1:
         raise Failed(Status.USAGE, "load: one client at least")
     # (not at the head of the file: the other commands start in half the time without asyncio)
-    from .load import Target, keys_of, put_all
+    from .load import keys_of, put_all
 
     keys = keys_of(sys.stdin.buffer)
-    with contextlib.ExitStack() as files:
-        numbers = [files.enter_context(_numbers(words)) for _ in range(words.clients)]
-        target = Target(words.nodes.split(","), numbers, words.cluster, words.timeout or None)
-        loaded = put_all(target, keys, replaces=words.replace)
+    with _clients(words, words.clients) as stores:
+        loaded = put_all(stores, keys, replaces=words.replace)
     _write(f"{loaded}\n".encode())
     for key in loaded.differing:
         _say(Status.NO, f"another value: {key.hex()}")
@@ -272,10 +296,8 @@ def bench(words: argparse.Namespace) -> int:
     # (not at the head of the file: the other commands start in half the time without asyncio)
     from .bench import measure
 
-    with contextlib.ExitStack() as files:
-        numbers = [files.enter_context(_numbers(words)) for _ in range(words.clients)]
-        nodes = words.nodes.split(",")
-        figures = measure(nodes, numbers, words.seconds, words.size, words.cluster, words.timeout or None)
+    with _clients(words, words.clients) as stores:
+        figures = measure(stores, words.seconds, words.size)
     if figures is None:
         raise Failed(Status.NO_ANSWER, f"no answer in {words.seconds:g} seconds")
     _write(f"{figures}\n".encode())
@@ -303,11 +325,36 @@ def _client(words: argparse.Namespace, numbers: KeptNumbers | None = None) -> It
     """Makes a client with these numbers, or with those of a file that no other process has."""
     with contextlib.ExitStack() as files:
         kept = numbers or files.enter_context(_numbers(words))
-        try:
-            made = Client(words.nodes.split(","), cluster=words.cluster, client=kept, timeout=words.timeout or None)
-        except OSError as error:
-            raise Failed(Status.PORT_FAULT, f"no socket, or no such host: {error}") from None
+        with _sockets():
+            made = Client(words.nodes.split(","), cluster=words.cluster, client=kept, timeout=words.timeout)
         yield files.enter_context(made)
+
+
+@contextlib.contextmanager
+def _clients(words: argparse.Namespace, count: int) -> Iterator[list["AsyncClient"]]:
+    """Makes so many clients for asyncio, each with a file that no other process has, and each beginning at another
+    node. The files are theirs until the end: a number that is let go between two commands may be another's by then."""
+    from .aio import AsyncClient
+
+    nodes = words.nodes.split(",")
+    with contextlib.ExitStack() as opened:
+        made = []
+        for at in range(count):
+            kept = opened.enter_context(_numbers(words))
+            turned = nodes[at % len(nodes) :] + nodes[: at % len(nodes)]
+            with _sockets():
+                made.append(AsyncClient(turned, cluster=words.cluster, client=kept, timeout=words.timeout))
+            opened.callback(made[-1].close)
+        yield made
+
+
+@contextlib.contextmanager
+def _sockets() -> Iterator[None]:
+    """Says where a client has no socket, or a node's name no address."""
+    try:
+        yield
+    except OSError as error:
+        raise Failed(Status.PORT_FAULT, f"no socket, or no such host: {error}") from None
 
 
 def _input(words: argparse.Namespace) -> bytes:
@@ -403,9 +450,10 @@ def _end(number: int, _: FrameType | None) -> None:
     sys.exit(128 + number)
 
 
-def main(arguments: Sequence[str]) -> int:
-    """Runs a command, and returns its status. What went wrong is said on standard error."""
-    words = read_words(arguments)
+def main(arguments: Sequence[str] | None = None) -> int:
+    """Runs a command, by default that of this process's words, and returns its status. What went wrong is said on
+    standard error."""
+    words = read_words(sys.argv[1:] if arguments is None else arguments)
     try:
         return words.run(words)
     except Failed as failed:

@@ -39,11 +39,12 @@ class NoRoom(CrsmError):
 
 
 class Closed(CrsmError):
-    """The client is closed. A command that was under way at that time may have been done, others were not sent."""
+    """The client is closed, or the file with its numbers. A command that was under way at that time may have been done,
+    others were not sent."""
 
 
 class InUse(CrsmError):
-    """Another process has the file with a client's number, and may be that client."""
+    """Another process has the client's number, by its file or by a fork, and may be that client."""
 
 
 class Unsafe(CrsmError):

@@ -8,6 +8,7 @@ import math
 from collections.abc import Iterable, Sequence
 from dataclasses import dataclass, field, replace
 
+from .arguments import seconds
 from .errors import REFUSALS, Closed, CrsmError, NoAnswer, Refused, Stale
 from .numbers import Numbers
 from .protocol import (
@@ -34,16 +35,22 @@ SILENT_FOR, NO_PART_FOR = 10.0, 2.0
 
 @dataclass(frozen=True)
 class Times:
-    """How long, in seconds: `timeout` for a command (None for no end), `node_timeout` at one node, and `resend` between
-    two copies of a request."""
+    """How long, in seconds: `timeout` for a command (0 or None for no end), `node_timeout` at one node, and `resend`
+    between two copies of a request."""
 
     timeout: float | None = 10.0
     node_timeout: float = 1.0
     resend: float = 0.25
 
     def __post_init__(self) -> None:
-        if self.resend < LEAST_RESEND:
-            raise ValueError(f"a request is sent again after {LEAST_RESEND} seconds or more")
+        if self.timeout is not None:
+            seconds("timeout", self.timeout)
+        seconds("node_timeout", self.node_timeout)
+        seconds("resend", self.resend, LEAST_RESEND)
+
+    def end(self, now: float) -> float:
+        """Returns the time at which a command is given up that begins now."""
+        return now + self.timeout if self.timeout else math.inf
 
 
 @dataclass
@@ -78,7 +85,7 @@ class Exchange:
         self._sent, self._refused = 0, 0
         self._due = now
         self._leave = now + times.node_timeout
-        self._deadline = math.inf if times.timeout is None else now + times.timeout
+        self._deadline = times.end(now)
 
     def is_over(self, now: float) -> bool:
         """Returns whether the time for the command has passed."""
@@ -109,7 +116,8 @@ class Exchange:
         """Takes a datagram from an address. Returns the answer to the command where it has one.
 
         A refusal leads on to the next node, but for one at the end of an epoch: that node is asked again. What comes
-        from a node that was not asked, or is no reply to this command, changes nothing.
+        from a node that was not asked, or is no reply to this command, changes nothing. A late reply to another command
+        has another client or number (`Numbers`), also where its client had this socket's port before.
         """
         if source not in self._asked or not data.startswith(self._mark):
             return None
@@ -141,7 +149,8 @@ class Exchange:
 
 
 class Session:
-    """What a client knows from one command to the next: the nodes and the one that answered last, its numbers, its times."""
+    """What a client knows from one command to the next: the nodes and the one that answered last, its numbers and its
+    times."""
 
     def __init__(self, nodes: Sequence[str | Address], cluster: int, client: int | Numbers | None, times: Times):
         self.nodes = addresses_of(nodes)

@@ -1,15 +1,16 @@
 """Putting the keys of a dump (`crsm dump`) into a cluster."""
 
 import asyncio
+import re
 import sys
 from collections import deque
-from collections.abc import Awaitable, Callable, Iterable, Sequence
+from collections.abc import Awaitable, Callable, Container, Iterable, Sequence
 from dataclasses import dataclass, field
 
 from .aio import AsyncClient
-from .numbers import Numbers
+from .protocol import KEY_BYTES, VALUE_BYTES
 
-# The first words of the other lines of a dump.
+# The first words of the lines of a dump that have no key.
 OTHERS = {"cluster", "bodies", "epoch", "members", "replicas", "executed", "promised", "client"}
 
 # What is done with a key and its value.
@@ -17,35 +18,92 @@ Step = Callable[[AsyncClient, bytes, bytes], Awaitable[None]]
 
 
 class NotADump(ValueError):
-    """The input has no line, or one that is none of a dump."""
+    """The input has no line, or one that no dump has in its place."""
 
 
 def keys_of(lines: Iterable[bytes]) -> dict[bytes, bytes]:
-    """Returns the keys and values of a dump's lines. Raises `NotADump` for other lines, and where there is none: then
-    the program that was to write them has failed."""
-    keys = {}
-    number = 0
+    """Returns the keys and values of a dump's lines, in the order of the keys.
+
+    The last line may be `keys N`, with the number of the keys. Raises `NotADump`, which names the line and the cause,
+    for lines that are none of a dump, for keys that do not rise, and for another number of keys; where a whole dump
+    ends before its clients; and where no line came: then the program that was to write them has failed. Lines of keys
+    alone that were cut behind a whole one are fewer keys, unless they are counted.
+    """
+    keys: dict[bytes, bytes] = {}
+    number, last, is_counted = 0, b"", False
+    others: dict[str, list[str]] = {}
     for number, line in enumerate(lines, 1):
-        row = _row_of(line)
-        if row is not None:
-            keys[row[0]] = row[1]
-        elif line.split(b" ")[0].decode("latin-1") not in OTHERS:
-            raise NotADump(f"line {number} is none of a dump: {line[:60]!r}")
+        try:
+            word, rest = _words_of(line)
+            if is_counted:
+                raise NotADump("it stands behind the number of the keys")
+            if word == "keys":
+                is_counted = _check_count(rest, len(keys))
+            elif word == "key":
+                key, value = _row_of(rest)
+                _check_rises(last, key, keys)
+                keys[key], last = value, key
+            else:
+                others[word] = rest
+        except NotADump as cause:
+            raise NotADump(f"line {number}: {cause}") from None
     if not number:
         raise NotADump("no line came: a whole dump has some, even of an empty store")
+    _check_whole(others)
     return keys
 
 
-def _row_of(line: bytes) -> tuple[bytes, bytes] | None:
-    """Reads a line `key KEY VALUE`, which ends with a line feed."""
-    words = line.decode("latin-1").split(" ")
-    if len(words) != 3 or words[0] != "key" or not words[2].endswith("\n"):
-        return None
-    key, value = words[1], words[2][:-1]
-    try:
-        return bytes.fromhex(key), b"" if value == "empty" else bytes.fromhex(value)
-    except ValueError:
-        return None
+def _words_of(line: bytes) -> tuple[str, list[str]]:
+    """Returns the first word of a line that ends with a line feed, and the others."""
+    if not line.endswith(b"\n"):
+        raise NotADump("it has no end, so the dump was cut")
+    word, *rest = line[:-1].decode("latin-1").split(" ")
+    if word not in {"key", "keys", *OTHERS}:
+        raise NotADump(f"it is none of a dump: {line[:60]!r}")
+    return word, rest
+
+
+def _row_of(words: Sequence[str]) -> tuple[bytes, bytes]:
+    """Reads the words KEY and VALUE. A value of no bytes is `empty`."""
+    if len(words) != 2:
+        raise NotADump("a key and a value stand behind the word `key`")
+    key = _bytes_of("key", words[0], KEY_BYTES)
+    return key, b"" if words[1] == "empty" else _bytes_of("value", words[1], VALUE_BYTES)
+
+
+def _bytes_of(name: str, text: str, most: int) -> bytes:
+    """Reads the bytes of a key or of a value, 1 to `most`."""
+    if re.fullmatch("(?:[0-9a-f]{2})+", text) is None:
+        is_upper = re.fullmatch("(?:[0-9a-fA-F]{2})+", text) is not None
+        raise NotADump(f"the {name} {'has letters in upper case' if is_upper else 'is not hexadecimal'}: {text[:60]}")
+    if len(text) > 2 * most:
+        raise NotADump(f"the {name} has {len(text) // 2} bytes, and {most} at most")
+    return bytes.fromhex(text)
+
+
+def _check_rises(last: bytes, key: bytes, keys: Container[bytes]) -> None:
+    """Sees that a key is above the last one: lines that were joined or sorted anew are no dump."""
+    if key in keys:
+        raise NotADump(f"the key {key.hex()} is named twice")
+    if key < last:
+        raise NotADump(f"the key {key.hex()} stands behind {last.hex()}, and keys rise")
+
+
+def _check_whole(others: dict[str, list[str]]) -> None:
+    """Sees by the lines without a key that a dump which has some goes on to its clients, behind the keys. There is one
+    at least where a command was executed."""
+    has_clients = "client" in others or others.get("executed") == ["0"]
+    if others and not ("promised" in others and has_clients):
+        raise NotADump("the input ends before the clients of the store, so the dump was cut")
+
+
+def _check_count(words: Sequence[str], count: int) -> bool:
+    """Sees that the number of the keys is this one, and returns true."""
+    if len(words) != 1 or re.fullmatch("0|[1-9][0-9]*", words[0], re.ASCII) is None:
+        raise NotADump("a number stands behind the word `keys`")
+    if words[0] != str(count):
+        raise NotADump(f"it names {words[0]} keys, and {count} stand before it")
+    return True
 
 
 @dataclass
@@ -60,28 +118,11 @@ class Loaded:
         return f"{self.put} keys put, {self.there} there already, {len(self.differing)} with another value"
 
 
-@dataclass(frozen=True)
-class Target:
-    """The cluster that keys go to, and the numbers of the clients that put them."""
-
-    nodes: Sequence[str]
-    clients: Sequence[Numbers]
-    cluster: int = 0
-    timeout: float | None = 10.0
-
-    def stores(self) -> list[AsyncClient]:
-        """Makes the clients. Each begins at another node."""
-        starts = [at % len(self.nodes) for at in range(len(self.clients))]
-        turned = [[*self.nodes[start:], *self.nodes[:start]] for start in starts]
-        pairs = zip(turned, self.clients, strict=True)
-        return [AsyncClient(nodes, cluster=self.cluster, client=it, timeout=self.timeout) for nodes, it in pairs]
-
-
-def put_all(target: Target, keys: dict[bytes, bytes], *, replaces: bool) -> Loaded:
+def put_all(stores: Sequence[AsyncClient], keys: dict[bytes, bytes], *, replaces: bool) -> Loaded:
     """Puts each key that is missing, and with `replaces` each that has another value; then reads all and compares.
 
-    A load that was broken off is repeated from the beginning: what it put is there already. Raises `CrsmError` if a
-    command was not done.
+    All clients are at work in both passes, and stay open. A load that was broken off is repeated from the beginning:
+    what it put is there already. Raises `CrsmError` if a command was not done.
     """
     loaded = Loaded()
 
@@ -99,33 +140,32 @@ def put_all(target: Target, keys: dict[bytes, bytes], *, replaces: bool) -> Load
             loaded.differing.append(key)
 
     async def both() -> None:
-        await _for_each("put", target, keys, put)
-        await _for_each("compared", target, keys, compare)
+        await _for_each("put", stores, keys, put)
+        await _for_each("compared", stores, keys, compare)
 
     asyncio.run(both())
     loaded.differing.sort()
     return loaded
 
 
-async def _for_each(verb: str, target: Target, keys: dict[bytes, bytes], do: Step) -> None:
+async def _for_each(verb: str, stores: Sequence[AsyncClient], keys: dict[bytes, bytes], do: Step) -> None:
     """Does this for each key, by all clients at a time, each of which asks for one after another. After an error the
     others end what is under way."""
-    left = deque(sorted(keys.items()))
+    left = deque(keys.items())
     count = 0
 
     async def one(store: AsyncClient) -> None:
         nonlocal count
-        async with store:
-            try:
-                while left:
-                    await do(store, *left.popleft())
-                    count += 1
-                    _show(verb, count, len(keys))
-            except BaseException:
-                left.clear()
-                raise
+        try:
+            while left:
+                await do(store, *left.popleft())
+                count += 1
+                _show(verb, count, len(keys))
+        except BaseException:
+            left.clear()
+            raise
 
-    for result in await asyncio.gather(*map(one, target.stores()), return_exceptions=True):
+    for result in await asyncio.gather(*map(one, stores), return_exceptions=True):
         if result is not None:
             raise result
 

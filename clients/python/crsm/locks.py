@@ -9,8 +9,9 @@ from collections.abc import Generator
 from dataclasses import dataclass
 from typing import NamedTuple, Self
 
+from .arguments import LAST_NUMBER, seconds, whole
 from .errors import CrsmError, LockHeld, LockLost, NotALock
-from .protocol import LAST_NUMBER, Answer, Bytes, Operation, bytes_of, cas_of, get_of
+from .protocol import Answer, Bytes, Operation, bytes_of, cas_of, get_of
 
 # The pauses between two looks at a lock that another holds: each is twice the one before, up to the last.
 FIRST_PAUSE, LAST_PAUSE = 0.05, 1.0
@@ -49,12 +50,19 @@ class LockState(NamedTuple):
 @dataclass(frozen=True)
 class Terms:
     """On which terms a lock is taken: from another holder or not, and then of any grant or of one; for how many seconds
-    to wait for it, None for no end; and whether a grant to this client itself is replaced by a new one."""
+    to wait for it, None for no end; and whether a grant to this client itself is replaced by a new one. A lock that is
+    free is taken on any terms."""
 
     breaks: bool = False
     broken_fence: int | None = None
     wait: float | None = None
     renews: bool = False
+
+    def __post_init__(self) -> None:
+        if self.broken_fence is not None:
+            whole("fence", self.broken_fence)
+        if self.wait is not None:
+            seconds("wait", self.wait)
 
     def may_break(self, lock: LockState) -> bool:
         """Returns whether the lock may be taken from its holder."""
@@ -91,12 +99,15 @@ def granted(key: bytes, client: int, terms: Terms) -> Generator[Operation, Answe
     while True:
         found = (yield get_of(key)).value
         lock = LockState.of(found)
+        # The owner's number is this client's alone (`Numbers`): it is a grant of its own, whose answer may be lost.
         if lock.owner == client and not terms.renews:
             return lock.fence
         if lock.owner not in (None, client) and not terms.may_break(lock):
             raise LockHeld(lock.owner, lock.fence)
         if lock.fence == LAST_NUMBER:
             raise CrsmError("the lock has no greater fence")
+        # No two grants have one fence: of those that found the same value the compare and set lets one through, and
+        # that value, with a smaller fence, does not come back as long as nothing else writes the key.
         wanted = LockState(lock.fence + 1, client)
         if (yield cas_of(key, found, wanted.value())).is_done:
             return wanted.fence

@@ -5,6 +5,7 @@ import struct
 from collections.abc import Iterable, Sequence
 from typing import NamedTuple, TypeAlias
 
+from .arguments import LAST_NUMBER, listed, whole
 from .errors import REFUSALS, CrsmError, NoRoom, Stale, Unsafe
 
 Bytes: TypeAlias = bytes | bytearray | memoryview | str
@@ -14,7 +15,6 @@ KEY_BYTES = 64
 VALUE_BYTES = 512
 DATAGRAM_BYTES = 8192
 REPLICAS = 15
-LAST_NUMBER = 2**64 - 1
 
 _REQUEST, _REPLY, _OPERATE, _MARK = 4, 5, 6, 16
 _GET, _PUT, _DELETE, _CAS = 1, 2, 3, 4
@@ -111,14 +111,20 @@ def _optional(value: Bytes | None) -> bytes:
 
 def mark_of(cluster: int) -> bytes:
     """Returns the bytes before each datagram of a cluster. Raises `ValueError` for a number of more than 64 bits."""
-    if not 0 <= cluster <= LAST_NUMBER:
-        raise ValueError("a number has 64 bits")
-    return struct.pack(">BQ", _MARK, cluster) if cluster else b""
+    return struct.pack(">BQ", _MARK, cluster) if whole("cluster", cluster, LAST_NUMBER) else b""
 
 
 def request_of(client: int, number: int, operation: Operation) -> bytes:
     """Returns the bytes of a request."""
     return struct.pack(">BQQ", _REQUEST, client, number) + operation.data
+
+
+def chosen_of(members: Iterable[int]) -> list[int]:
+    """Returns the numbers of members, each once and rising. Raises `TypeError` or `ValueError` where one is none."""
+    chosen = sorted({whole("members", number, REPLICAS - 1) for number in listed("members", members)})
+    if not chosen:
+        raise ValueError("members: one number at least")
+    return chosen
 
 
 def members_of(members: Iterable[int], nodes: int, via: int | None, sure: bool) -> tuple[int, bytes]:
@@ -128,38 +134,42 @@ def members_of(members: Iterable[int], nodes: int, via: int | None, sure: bool) 
     Raises `ValueError` for numbers that are none, and `Unsafe` for members that are no majority of the nodes, unless
     the caller is `sure`.
     """
-    chosen = sorted(set(members))
-    if not chosen or chosen[0] < 0 or chosen[-1] >= REPLICAS:
-        raise ValueError(f"members are numbers from 0 to {REPLICAS - 1}")
+    chosen = chosen_of(members)
     here = [number for number in chosen if number < nodes]
     if not sure and 2 * len(here) <= nodes:
         raise Unsafe(f"{chosen} has no majority of {nodes} nodes; say sure=True if that is meant")
-    to = (here[0] if here else 0) if via is None else via
-    if not 0 <= to < nodes:
-        raise ValueError(f"replica {to} has no address here")
+    to = (here[0] if here else 0) if via is None else whole("via", via, nodes - 1)
     return to, bytes([_OPERATE, len(chosen)]) + bytes(chosen)
 
 
 def addresses_of(nodes: Sequence[str | Address]) -> list[Address]:
-    """Returns the addresses of a cluster's nodes. Raises `ValueError` where one is none, or two are alike."""
-    if isinstance(nodes, (str, bytes)):
-        raise TypeError("nodes are a list of addresses")
-    addresses = [_address(node) for node in nodes]
+    """Returns the addresses of a cluster's nodes. Raises `TypeError` or `ValueError` where one is none, or two are
+    alike, and `OSError` where a name has no address."""
+    addresses = [_address(node) for node in listed("nodes", nodes)]
     if not 1 <= len(addresses) <= REPLICAS or len(set(addresses)) != len(addresses):
-        raise ValueError(f"a cluster has 1 to {REPLICAS} nodes with addresses of their own")
+        raise ValueError(f"nodes: 1 to {REPLICAS} addresses, no two alike")
     return addresses
 
 
-def _address(node: str | Address) -> Address:
+def _address(node: object) -> Address:
     if isinstance(node, str):
-        host, colon, port = node.rpartition(":")
-        if not colon or not port.isdecimal():
-            raise ValueError(f"no address HOST:PORT: {node}")
-        node = (host, int(port))
-    host, number = node
-    if not 0 < number < 65536:
-        raise ValueError(f"no port: {number}")
-    return socket.gethostbyname(host), number
+        host, colon, digits = node.rpartition(":")
+        if not (colon and digits.isascii() and digits.isdecimal()):
+            raise ValueError(f"nodes: no address HOST:PORT: {node}")
+        node = (host, int(digits))
+    if not (isinstance(node, (tuple, list)) and len(node) == 2 and isinstance(node[0], str)):
+        raise TypeError(f"nodes: an address is 'HOST:PORT' or (host, port), not {node!r}")
+    host, port = node[0], whole("nodes: a port", node[1], 65535)
+    if ":" in host:
+        raise ValueError(f"nodes: addresses are of IPv4, not {host}")
+    try:
+        address = socket.gethostbyname(host)
+    except ValueError:
+        raise ValueError(f"nodes: no name of a host: {host!r}") from None
+    # Datagrams to the address that stands for all of a machine are answered from another one.
+    if port == 0 or address == "0.0.0.0":
+        raise ValueError(f"nodes: no node listens at {host}:{port}")
+    return address, port
 
 
 class _Unreadable(Exception):

@@ -1,8 +1,10 @@
-"""Tests of `python3 -m crsm` against the small node of `test_crsm`."""
+"""Tests of `python3 -m crsm` against a small node."""
 
+import contextlib
 import io
 import os
 import signal
+import socket
 import subprocess
 import sys
 import tempfile
@@ -10,10 +12,12 @@ import time
 import unittest
 from unittest import mock
 
+from crsm import KeptNumbers, __version__
 from crsm.commands import main
-from test_crsm import ClusterTest, lock_value
 
-HERE = os.path.dirname(os.path.abspath(__file__))
+from .small import ClusterTest, lock_value
+
+HERE = os.path.dirname(os.path.dirname(os.path.abspath(__file__)))
 SHOWS_FENCE = ["--", "sh", "-c", "echo $CRSM_FENCE"]
 
 
@@ -51,7 +55,7 @@ class CommandsTest(ClusterTest):
         return status, streams[1].buffer.getvalue(), streams[2].buffer.getvalue().decode()
 
     def check(self, words, status, out=b"", err="", given=b""):
-        ran = self.ran if words[:1] == ["lock"] else self.ran_here
+        ran = self.ran if "lock" in words else self.ran_here
         ended, wrote, said = ran(*words, given=given)
         self.assertEqual((ended, wrote), (status, out), said)
         self.assertIn(err, said)
@@ -92,26 +96,136 @@ class CommandsTest(ClusterTest):
         self.check(["load"], 1, b"0 keys put, 1 there already, 1 with another value\n", "another value: 63", given=dump)
         self.check(["load", "--replace"], 0, b"1 keys put, 1 there already, 0 with another value\n", given=dump)
         self.assertEqual(self.store.rows, {b"a": b"b", b"c": b""})
-        self.check(["load"], 0, b"0 keys put, 0 there already, 0 with another value\n", given=b"bodies 0\n")
+        empty = b"bodies 0\nepoch 0\nmembers 0,1\nreplicas 0,1\nexecuted 0\npromised 0 0\n"
+        self.check(["load"], 0, b"0 keys put, 0 there already, 0 with another value\n", given=empty)
         self.check(["load"], 1, err="full", given=b"key 61 62\nkey 62 62\nkey 63 64\nkey 64 65\n")
 
+    def test_load_of_many_keys(self):
+        # (more than the numbers that eight files are reserved for at first)
+        self.store.room = 5000
+        dump = b"".join(b"key %08x 61\n" % at for at in range(5000))
+        self.check(["load"], 0, b"5000 keys put, 0 there already, 0 with another value\n", given=dump)
+        self.assertEqual((len(self.store.rows), len(self.store.clients)), (5000, 8))
+
+    def test_load_keeps_its_number_until_its_end(self):
+        # At each command of the load another process would take the next number.
+        self.store.room, free = 9, []
+        change = self.store.change
+
+        def looks(operation):
+            with contextlib.closing(KeptNumbers.first_free(f"{self.state.name}/crsm")) as other:
+                free.append(other.path.name)
+            return change(operation)
+
+        self.store.change = looks
+        put = b"3 keys put, 0 there already, 0 with another value\n"
+        self.check(["load", "--clients", "1"], 0, put, given=b"key 61 62\nkey 62 62\nkey 63 62\n")
+        self.assertEqual(free, ["client-1"] * 6)
+
+    def test_load_and_another_command_at_a_time(self):
+        self.store.room = 1500
+        dump = b"".join(b"key %08x 61\n" % at for at in range(1500))
+        process = self.started("load", "--clients", "1")
+        process.stdin.write(dump)
+        process.stdin.close()
+        process.stdin = None
+        self.addCleanup(process.communicate)
+        asked = 0
+        while process.poll() is None:
+            self.check(["get", "z"], 1, err="missing")
+            asked += 1
+        put = b"1500 keys put, 0 there already, 0 with another value\n"
+        self.assertEqual((*process.communicate(), process.returncode), (put, b"", 0))
+        # (a `get` that began before the load took a number has that of the first file)
+        self.assertEqual((len(self.store.rows), len(self.store.clients), asked > 1), (1500, 2, True))
+
     def test_load_of_no_dump(self):
-        self.check(["load"], 2, err="line 2 is none of a dump", given=b"key 61 62\nkey 6 62\n")
-        self.check(["load"], 2, err="line 1 is none of a dump", given=b"key 61 62")
-        self.check(["load"], 2, err="line 1 is none of a dump", given=b"put 61 62\n")
-        self.check(["load"], 2, err="no line came")
+        for given, why in (
+            (b"", "no line came"),
+            (b"put 61 62\n", "line 1: it is none of a dump"),
+            (b"\n", "line 1: it is none of a dump"),
+            (b"key 61 62\nkey 6 62\n", "line 2: the key is not hexadecimal: 6"),
+            (b"key 61 6g\n", "line 1: the value is not hexadecimal: 6g"),
+            (b"key 61 62\r\n", "line 1: the value is not hexadecimal"),
+            (b"key 6\xe9 62\n", "line 1: the key is not hexadecimal"),
+            (b"key 6A 62\n", "line 1: the key has letters in upper case: 6A"),
+            (b"key 61 6F\n", "line 1: the value has letters in upper case: 6F"),
+            (b"key 61\n", "line 1: a key and a value stand behind"),
+            (b"key 61  62\n", "line 1: a key and a value stand behind"),
+            (b"key  62\n", "line 1: the key is not hexadecimal"),
+            (b"key 61 \n", "line 1: the value is not hexadecimal"),
+            (b"key empty 62\n", "line 1: the key is not hexadecimal"),
+            (b"key %s 62\n" % (b"61" * 65), "line 1: the key has 65 bytes, and 64 at most"),
+            (b"key 61 %s\n" % (b"61" * 513), "line 1: the value has 513 bytes, and 512 at most"),
+            (b"key 61 62\nkey 61 62\n", "line 2: the key 61 is named twice"),
+            (b"key 61 62\nkey 62 62\nkey 61 62\n", "line 3: the key 61 is named twice"),
+            (b"bodies 3\nkey 61 62\nkey 60ff 62\n", "line 3: the key 60ff stands behind 61, and keys rise"),
+            (b"key 61 62", "line 1: it has no end, so the dump was cut"),
+            (b"key 61 62\nclient 7 2 don", "line 2: it has no end, so the dump was cut"),
+            (b"key 61 62\nkeys 2\n", "line 2: it names 2 keys, and 1 stand before it"),
+            (b"keys 1\n", "line 1: it names 1 keys, and 0 stand before it"),
+            (b"key 61 62\nkeys 01\n", "line 2: a number stands behind the word `keys`"),
+            (b"key 61 62\nkeys\n", "line 2: a number stands behind the word `keys`"),
+            (b"key 61 62\nkeys 1\nkey 62 62\n", "line 3: it stands behind the number of the keys"),
+            (b"keys 0\nkeys 0\n", "line 2: it stands behind the number of the keys"),
+        ):
+            with self.subTest(given):
+                self.check(["load"], 2, err=f"crsm: {why}", given=given)
         self.check(["load", "--clients", "0"], 2, err="one client", given=b"key 61 62\n")
-        self.assertEqual(self.store.rows, {})
+        self.assertEqual(self.served.taken, [])
+
+    def test_load_of_a_dump_that_was_cut(self):
+        lines = b"bodies 3\nepoch 0\nmembers 0,1\nreplicas 0,1\nexecuted 4\npromised 0 0\nkey 61 62\nkey 62 62\n"
+        dump = lines + b"client 7 2 done\nclient 8 2 done\n"
+        for size in range(len(dump)):
+            if not dump[:size].endswith(b"done\n"):
+                self.check(["load"], 2, given=dump[:size])
+        self.assertEqual(self.served.taken, [])
+        self.check(["load"], 2, err="the input ends before the clients of the store, so the dump was cut", given=lines)
+        for whole in dump, dump.replace(b"client 8 2 done\n", b""):
+            self.check(["load", "--replace"], 0, mock.ANY, given=whole)
+
+    def test_load_of_a_dump_that_counts(self):
+        dump = b"executed 3\npromised 0 0\nkey 61 62\nkey 6100 empty\nclient 7 2 done\nkeys 2\n"
+        self.check(["load"], 0, b"2 keys put, 0 there already, 0 with another value\n", given=dump)
+        self.assertEqual(self.store.rows, {b"a": b"b", b"a\0": b""})
+        self.check(["load"], 0, b"0 keys put, 0 there already, 0 with another value\n", given=b"keys 0\n")
+
+    def test_options_before_the_command_and_behind_it(self):
+        host, port = self.dead().getsockname()
+        dead = ["--nodes", f"{host}:{port}"]
+        fast = ["--timeout", "0.3"]
+        self.store.rows[b"a"] = b"1"
+        self.check(["--hex", "get", "61"], 0, b"31\n")
+        self.check(["--state", f"{self.state.name}/lock", "get", "--hex", "61"], 0, b"31\n")
+        self.assertEqual(sorted(os.listdir(self.state.name)), ["crsm", "lock"])
+        self.check([*dead, *fast, "get", "a"], 9, err="no answer")
+        self.check([*dead, "get", "a", *fast], 9, err="no answer")
+        # What stands behind it decides.
+        self.check([*fast, "get", "a", *dead], 9, err="no answer")
+        here = ":".join(map(str, self.served.address))
+        self.check([*dead, *fast, "get", "a", "--nodes", here, "--timeout", "0"], 0, b"1\n")
+        self.check(["--cluster", "9", "get", "a", "--cluster", "0"], 0, b"1\n")
+        self.check(["--hex", "put", "--", "62", "32"], 0)
+        self.assertEqual(self.store.rows[b"b"], b"2")
+        self.check(["--timeout", "5", "lock", "--wait", "1", "c", "--", "echo", "--", "--hex"], 0, b"-- --hex\n")
+        self.check(["--timeout", "5", "lock", "c"], 2, err="lock: the command to run stands behind --")
+        self.check(["--timeout", "5", "get", "lock", "--", "x"], 2, err="unrecognized arguments")
+
+    def test_version(self):
+        self.check(["--version"], 0, f"crsm-client {__version__}\n".encode())
 
     def test_operate(self):
         host, port = self.dead().getsockname()
         here = f"{self.served.address[0]}:{self.served.address[1]},{host}:{port}"
         self.check(["operate", "0,1", "--nodes", here], 2, err="node 1 has not answered (--sure asks all the same)")
-        self.check(["operate", "1,2", "--nodes", here], 2, err="node 2 has no address; node 1 has not answered; of the nodes 0")
+        why = "node 2 has no address; node 1 has not answered; of the nodes 0"
+        self.check(["operate", "1,2", "--nodes", here], 2, err=why)
         self.check(["operate", "0,x", "--nodes", here], 2, err="not numbers")
         self.assertEqual([data for data in self.served.taken if data[0] == 6], [])
         self.check(["operate", "0", "--nodes", here], 0)
-        self.check(["operate", "0,1", "--sure", "--timeout", "0.5", "--nodes", here], 9, err="node 1: it has not answered")
+        sure = ["operate", "0,1", "--sure", "--timeout", "0.5", "--nodes", here]
+        self.check(sure, 9, err="node 1: it has not answered")
         asked = [data for data in self.served.taken if data[0] == 6]
         self.assertEqual(asked, [b"\x06\1\0"] * 2 + [b"\x06\2\0\1"] * 2)
 
@@ -122,6 +236,12 @@ class CommandsTest(ClusterTest):
             ["get"],
             ["get", "a", "--nodes", "here"],
             ["get", "a", "--cluster", "-1"],
+            ["--timeout", "-1", "get", "a"],
+            ["--timeout", "soon", "get", "a"],
+            ["--timeout"],
+            ["get", "a", "--nodes", "[::1]:7000"],
+            ["lock", "a", "--wait", "-1", "--", "true"],
+            ["lock", "a", "--break", "-1", "--", "true"],
             ["get", "a", "--hex"],
             ["get", "k" * 65],
             ["cas", "a", "--to", "b"],
@@ -143,6 +263,10 @@ class CommandsTest(ClusterTest):
 
     def test_faults(self):
         self.check(["get", "a", "--state", "/dev/null/x"], 7, err="cannot be kept")
+        unknown = socket.gaierror(-2, "Name or service not known")
+        with mock.patch("socket.gethostbyname", side_effect=unknown):
+            for words in (["get", "a"], ["load"], ["bench"]):
+                self.check([*words, "--nodes", "nowhere:7000"], 6, err="no such host", given=b"key 61 62\n")
         self.store.rows[b"a"] = b"1"
         with open("/dev/full", "wb") as full:
             self.assertEqual(self.ran("get", "a", stdout=full)[0], 5)

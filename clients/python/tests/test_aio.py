@@ -1,4 +1,4 @@
-"""Tests of the asyncio client against the small node of `test_crsm`."""
+"""Tests of the asyncio client against a small node."""
 
 import asyncio
 import time
@@ -6,7 +6,8 @@ import unittest
 
 from crsm import Closed, LockHeld, LockLost, NoAnswer, NotMembers, Numbers, Refused
 from crsm.aio import AsyncClient
-from test_crsm import FAST, ClusterTest, Node, lock_value
+
+from .small import FAST, ClusterTest, Node, lock_value
 
 
 class AioTest(ClusterTest, unittest.IsolatedAsyncioTestCase):

@@ -1,13 +1,16 @@
-"""Tests of the client against a small node: a UDP server on a thread, with a store of its own."""
+"""Tests of the client against a small node."""
 
 import contextlib
 import os
 import socket
 import struct
+import subprocess
+import sys
 import tempfile
 import threading
 import time
 import unittest
+from unittest import mock
 
 from crsm import (
     Client,
@@ -26,136 +29,12 @@ from crsm import (
     Stale,
     Unsafe,
 )
-from crsm.exchange import Times
+from crsm.aio import AsyncClient
+from crsm.exchange import Exchange, Ring, Times
 
-FAST = {"timeout": 20.0, "node_timeout": 0.25, "resend": 0.1}
+from .small import FAST, ClusterTest, lock_value, spelt
 
-
-class Store:
-    """Keys, and of each client the last command's number and answer, as the replicas of a cluster agree on them."""
-
-    def __init__(self):
-        self.rows, self.clients, self.done, self.room = {}, {}, 0, 3
-
-    def apply(self, client, number, op):
-        last, answer = self.clients.get(client, (-1, b""))
-        if number < last:
-            return b"\x05" + struct.pack(">Q", last)
-        if number > last:
-            answer = self.change(op)
-            self.done += 1
-            self.clients[client] = (number, answer)
-        return answer
-
-    def change(self, op):
-        kind, size = op[0], op[1]
-        key, rest = op[2 : 2 + size], op[2 + size :]
-        had = self.rows.get(key)
-        if kind == 1:
-            return b"\x02" if had is None else b"\x01" + spelt(had)
-        if kind == 3:
-            return b"\x02" if self.rows.pop(key, None) is None else b"\x03"
-        if kind == 2:
-            return self.set(key, rest[2:])
-        expected, rest = optional(rest)
-        new, _ = optional(rest)
-        if had != expected:
-            return b"\x04" + (b"\0" if had is None else b"\1" + spelt(had))
-        return self.set(key, new)
-
-    def set(self, key, value):
-        if value is None:
-            self.rows.pop(key, None)
-            return b"\x03"
-        if key not in self.rows and len(self.rows) == self.room:
-            return b"\x06"
-        self.rows[key] = value
-        return b"\x03"
-
-
-def spelt(value):
-    return struct.pack(">H", len(value)) + value
-
-
-def optional(data):
-    if data[0] == 0:
-        return None, data[1:]
-    size = int.from_bytes(data[1:3], "big")
-    return data[3 : 3 + size], data[3 + size :]
-
-
-class Node(threading.Thread):
-    """A node that loses `deaf` requests, then refuses with these codes, and then keeps `mute` replies to itself."""
-
-    def __init__(self, store, cluster=0, deaf=0, mute=0, refuse=(), before=()):
-        super().__init__(daemon=True)
-        self.store, self.deaf, self.mute = store, deaf, mute
-        self.mark = b"" if cluster == 0 else b"\x10" + struct.pack(">Q", cluster)
-        self.refuse, self.before = list(refuse), list(before)
-        self.taken, self.times = [], []
-        self.socket = socket.socket(socket.AF_INET, socket.SOCK_DGRAM)
-        self.socket.bind(("127.0.0.1", 0))
-        self.address = self.socket.getsockname()
-        self.start()
-
-    def run(self):
-        while True:
-            data, source = self.socket.recvfrom(9000)
-            if data == b"stop":
-                self.socket.close()
-                return
-            self.take(data, source)
-
-    def take(self, data, source):
-        self.taken.append(data)
-        self.times.append(time.monotonic())
-        if not data.startswith(self.mark) or data[len(self.mark)] != 4:
-            return
-        if self.deaf:
-            self.deaf -= 1
-            return
-        bare = data[len(self.mark) :]
-        client, number = struct.unpack(">QQ", bare[1:17])
-        head = b"\x05" + bare[1:17]
-        if self.refuse:
-            self.socket.sendto(self.mark + head + bytes([self.refuse.pop(0)]), source)
-            return
-        answer = self.store.apply(client, number, bare[17:])
-        if self.mute:
-            self.mute -= 1
-            return
-        for wrong in self.before:
-            self.socket.sendto(wrong(self.mark, head, answer), source)
-        self.socket.sendto(self.mark + head + b"\0" + answer, source)
-        self.socket.sendto(self.mark + head + b"\0" + answer, source)
-
-    def stop(self):
-        self.socket.sendto(b"stop", self.address)
-        self.join()
-
-
-class ClusterTest(unittest.TestCase):
-    def setUp(self):
-        self.store = Store()
-
-    def node(self, **how):
-        node = Node(self.store, **how)
-        self.addCleanup(node.stop)
-        return node
-
-    def client(self, *nodes, **how):
-        addresses = [node.address if isinstance(node, Node) else node.getsockname() for node in nodes]
-        client = Client(addresses, **{**FAST, **how})
-        self.addCleanup(client.close)
-        return client
-
-    def dead(self):
-        """The socket of a node that never answers."""
-        quiet = socket.socket(socket.AF_INET, socket.SOCK_DGRAM)
-        quiet.bind(("127.0.0.1", 0))
-        quiet.setblocking(False)
-        self.addCleanup(quiet.close)
-        return quiet
+HERE = os.path.dirname(os.path.dirname(os.path.abspath(__file__)))
 
 
 class ClientTest(ClusterTest):
@@ -193,8 +72,19 @@ class ClientTest(ClusterTest):
         node = self.node(deaf=2)
         self.client(node, node_timeout=3.0).put("a", "1")
         self.assertEqual((len(node.taken), self.store.done), (3, 1))
-        for before, after in zip(node.times, node.times[1:]):
-            self.assertGreater(after - before, 0.09)
+
+    def test_copies_do_not_follow_one_another_faster(self):
+        node = "127.0.0.1", 7000
+        exchange = Exchange(b"", b"", (7, 1), Ring([node]), Times(timeout=1.1, node_timeout=5.0, resend=0.25), 10.0)
+        seen = []
+        for hundredth in range(110):
+            now = 10.0 + hundredth / 100
+            if exchange.address_due(now) is not None:
+                seen.append(hundredth)
+            self.assertFalse(exchange.is_over(now))
+        # (the last copy has as long to be answered as the others)
+        self.assertEqual(seen, [0, 25, 50, 75])
+        self.assertTrue(exchange.is_over(11.2))
 
     def test_lost_replies(self):
         node = self.node(mute=2)
@@ -360,6 +250,10 @@ class ClientTest(ClusterTest):
         node = self.node(deaf=15)
         self.client(node, self.dead(), timeout=None).put("a", "1")
         self.assertEqual((len(node.taken), self.store.done), (16, 1))
+        # (0 stands for no end, too)
+        node.deaf = 3
+        self.client(node, timeout=0).put("a", "2")
+        self.assertEqual((len(node.taken), self.store.rows), (20, {b"a": b"2"}))
 
     def test_closed(self):
         node = self.node()
@@ -432,12 +326,68 @@ class ClientTest(ClusterTest):
         )
 
     def test_wrong_use(self):
-        for nodes in ([], ["127.0.0.1"], ["127.0.0.1:x"], ["127.0.0.1:0"], ["127.0.0.1:70000"], ["127.0.0.1:7"] * 2):
-            with self.assertRaises(ValueError):
-                Client(nodes)
-        for how in ({"resend": 0.05}, {"cluster": -1}, {"client": 2**64}):
-            with self.assertRaises(ValueError):
-                Client(["127.0.0.1:7000"], **how)
+        here = ["127.0.0.1:7000"]
+        for error, name, nodes, how in (
+            (ValueError, "nodes", [], {}),
+            (ValueError, "nodes", here * 2, {}),
+            (ValueError, "nodes", ["127.0.0.1"], {}),
+            (ValueError, "nodes", ["127.0.0.1:x"], {}),
+            (ValueError, "nodes", ["127.0.0.1:-1"], {}),
+            (ValueError, "nodes", ["127.0.0.1:0"], {}),
+            (ValueError, "nodes", ["127.0.0.1:70000"], {}),
+            (ValueError, "nodes", [":7000"], {}),
+            (ValueError, "nodes", ["0.0.0.0:7000"], {}),
+            (ValueError, "nodes", ["[::1]:7000"], {}),
+            (ValueError, "nodes", ["::1:7000"], {}),
+            (ValueError, "nodes", [("::1", 7000)], {}),
+            (ValueError, "nodes", ["a" * 70 + ":7000"], {}),
+            (TypeError, "nodes", here[0], {}),
+            (TypeError, "nodes", None, {}),
+            (TypeError, "nodes", [5], {}),
+            (TypeError, "nodes", [b"127.0.0.1:7000"], {}),
+            (TypeError, "nodes", [("127.0.0.1", "7000")], {}),
+            (TypeError, "nodes", [("127.0.0.1", 7000, 1)], {}),
+            (ValueError, "cluster", here, {"cluster": -1}),
+            (TypeError, "cluster", here, {"cluster": "9"}),
+            (ValueError, "client", here, {"client": 2**64}),
+            (ValueError, "client", here, {"client": -1}),
+            (TypeError, "client", here, {"client": 7.0}),
+            (TypeError, "client", here, {"client": "7"}),
+            (TypeError, "client", here, {"client": True}),
+            (ValueError, "resend", here, {"resend": 0.05}),
+            (TypeError, "resend", here, {"resend": None}),
+            (ValueError, "timeout", here, {"timeout": -1}),
+            (ValueError, "timeout", here, {"timeout": float("nan")}),
+            (TypeError, "timeout", here, {"timeout": "5"}),
+            (ValueError, "node_timeout", here, {"node_timeout": -0.5}),
+            (TypeError, "node_timeout", here, {"node_timeout": "1"}),
+        ):
+            for kind in Client, AsyncClient:
+                with self.subTest(kind=kind, nodes=nodes, how=how), self.assertRaisesRegex(error, f"^{name}: "):
+                    kind(nodes, **how)
+        with self.assertRaisesRegex(TypeError, "^last: "):
+            Numbers(7, "5")
+
+    def test_wrong_words_of_methods(self):
+        node = self.node()
+        client = self.client(node)
+        for error, name, ask in (
+            (TypeError, "members", lambda: client.reconfigure(0)),
+            (TypeError, "members", lambda: client.reconfigure("012")),
+            (TypeError, "members", lambda: client.request_members(["0"])),
+            (ValueError, "members", lambda: client.request_members([])),
+            (TypeError, "via", lambda: client.request_members([0], via="0")),
+            (ValueError, "via", lambda: client.request_members([0], via=1)),
+            (TypeError, "timeout", lambda: client.reconfigure([0], timeout="1")),
+            (ValueError, "timeout", lambda: client.look(timeout=-1)),
+            (TypeError, "wait", lambda: client.lock("a", wait="1")),
+            (ValueError, "wait", lambda: client.lock("a", wait=-1)),
+            (TypeError, "fence", lambda: client.break_lock("a", fence="7")),
+            (ValueError, "fence", lambda: client.break_lock("a", fence=-1)),
+        ):
+            with self.subTest(name), self.assertRaisesRegex(error, f"^{name}: "):
+                ask()
+        self.assertEqual(node.taken, [])
 
     def test_clients_have_numbers_of_their_own(self):
         node = self.node()
@@ -517,6 +467,81 @@ class KeptNumbersTest(ClusterTest):
             with contextlib.closing(KeptNumbers(self.path)) as kept:
                 self.assertNotIn(kept.client, (7, 9))
 
+    def test_closed(self):
+        kept = KeptNumbers(self.path)
+        kept.next()
+        kept.close()
+        kept.close()
+        with self.assertRaisesRegex(Closed, "client is closed"):
+            kept.next()
+        node = self.node()
+        store = self.client(node, client=kept)
+        with self.assertRaises(Closed):
+            store.put("a", "1")
+        self.assertEqual(node.taken, [])
+
+    def test_let_go(self):
+        for nodes, error in ((["nowhere:7000"], OSError), (["127.0.0.1"], ValueError)):
+            with mock.patch("socket.gethostbyname", side_effect=socket.gaierror), self.assertRaises(error):
+                Client(nodes, client=KeptNumbers(self.path))
+        with self.assertRaises(InUse), contextlib.closing(KeptNumbers(self.path)):
+            KeptNumbers(self.path)
+        with self.assertRaises(NotADirectoryError):
+            KeptNumbers(f"{self.path}/none")
+        with contextlib.closing(KeptNumbers(self.path)) as kept:
+            kept.next()
+
+    def test_closed_by_the_other_client_that_has_them(self):
+        kept = KeptNumbers(self.path)
+        first, second = self.client(self.node(), client=kept), self.client(self.node(), client=kept)
+        first.put("a", "1")
+        second.put("a", "2")
+        first.close()
+        with self.assertRaises(Closed):
+            second.put("a", "3")
+        self.assertEqual(self.store.rows, {b"a": b"2"})
+
+    def test_forked(self):
+        script = """
+import os, sys
+from crsm import InUse, KeptNumbers, Numbers
+kept = KeptNumbers(sys.argv[1])
+for numbers in (kept, Numbers(), Numbers(7)):
+    numbers.next()
+    if os.fork() == 0:
+        try:
+            numbers.next()
+        except InUse:
+            # (what a child closes stays locked by its parent)
+            numbers.close()
+            os._exit(0)
+        os._exit(1)
+    assert os.wait()[1] == 0, numbers
+    numbers.next()
+    try:
+        KeptNumbers(sys.argv[1])
+    except InUse:
+        continue
+    raise AssertionError("two have the file")
+kept.close()
+"""
+        words = [sys.executable, "-B", "-W", "error", "-c", script, self.path]
+        subprocess.run(words, cwd=HERE, check=True)
+
+    def test_threads_share_numbers(self):
+        numbers = Numbers(7, 0)
+        drawn = [[] for _ in range(4)]
+
+        def draw(to):
+            to.extend(numbers.next() for _ in range(5000))
+
+        threads = [threading.Thread(target=draw, args=(to,)) for to in drawn]
+        for thread in threads:
+            thread.start()
+        for thread in threads:
+            thread.join()
+        self.assertEqual(sorted(number for to in drawn for number in to), list(range(1, 20001)))
+
     def test_one_process_at_a_time(self):
         with contextlib.closing(KeptNumbers(self.path)), self.assertRaises(InUse):
             KeptNumbers(self.path)
@@ -531,10 +556,6 @@ class KeptNumbersTest(ClusterTest):
             self.assertEqual(again.client, taken[1].client)
         for kept in taken:
             kept.close()
-
-
-def lock_value(state, fence, owner):
-    return struct.pack(">BQQ", state, fence, owner)
 
 
 class LockTest(ClusterTest):
@@ -633,6 +654,21 @@ class LockTest(ClusterTest):
                 lost.give()
         with heir.break_lock("a") as fence:
             self.assertEqual(fence, 3)
+
+    def test_broken_where_nobody_else_holds_it(self):
+        node = self.node()
+        client, other = self.client(node), self.client(node)
+        # It is free, and taken as by `lock`, whatever the fence.
+        for at, fence in enumerate((None, 7, 1, 2), 1):
+            with client.break_lock("a", fence=fence) as granted:
+                self.assertEqual(granted, at)
+        # This client holds it, and its grant stays.
+        first = client.lock("a")
+        self.assertEqual(first.take(), 5)
+        client._let_go(b"a")
+        self.assertEqual(client.break_lock("a", fence=2).take(), 5)
+        with self.assertRaises(LockHeld):
+            other.break_lock("a", fence=4).take()
 
     def test_lost_while_the_statement_runs(self):
         node = self.node()
