@@ -21,6 +21,7 @@ declare -A speaks_of=(
   [crsm_law_restarts]=' crsm_port_faults crsm_clock crsm_disk crsm_io crsm_ledger crsm_log crsm_port crsm_replica_io crsm_replica_output crsm_replica_detector crsm_shell crsm_node '
   [crsm_law_worked]=' crsm_port_image crsm_clock crsm_disk crsm_ledger crsm_log crsm_port crsm_replica_io crsm_replica_output crsm_replica_detector crsm_shell crsm_text_sheet crsm_node '
   [crsm_law_killed]=' crsm_clock crsm_disk crsm_io crsm_port crsm_port_faults crsm_port_image crsm_node '
+  [crsm_law_parts]=' crsm_wire crsm_replica_output '
   [crsm_law_nodes]=' crsm_ledger crsm_schedule crsm_text_sheet crsm_wire crsm_port_peers crsm_replica_rerun '
 )
 
