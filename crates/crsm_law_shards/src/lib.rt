@@ -32,7 +32,10 @@ pub fn shard(key: &[u8], shards: u8) -> u8
     ensures is { result ≡ shard_of shards key.now }
     ensures below { result < shards }
 {
-    (hash(key) % u64::from(shards)) as u8
+    let hash = hash(key);
+    // The hash's last bit is but a parity of the key's bytes: keys of four odd digits would have half of the shards.
+    let folded = (hash >> 32) ^ (hash % (1 << 32));
+    (folded % u64::from(shards)) as u8
 }
 
 /// The hash of keys is the published one.
