@@ -1,5 +1,5 @@
 -- The log that is claimed, and the boot on it.
-use Rattle.std.proofs.Common.{◌≡◌, inl, inr, ⊎_elim, IsTrue, Bool, true, false, nat_lt, ℕ, ◌<◌, ◌≤◌, List, [], ◌∷◌, ◌++◌, refl, sym, ◌∙◌, ap, subst, arith}
+use Rattle.std.proofs.Common.{◌≡◌, inl, inr, ⊎_elim, IsTrue, Bool, true, false, nat_lt, ℕ, ◌<◌, ◌≤◌, List, [], ◌∷◌, refl, sym, ◌∙◌, ap, subst, arith}
 use Rattle.std.specs.Prelude.{Option}
 use Rattle.crsm_base.specs.declared.limits.TheConstants.{MAX_LOG_BYTES}
 use Rattle.crsm_disk.specs.Meaning.{LeavesOnly, Meaning}
@@ -15,7 +15,7 @@ use Rattle.crsm_spec.specs.Draft.{begun, keep}
 use Rattle.crsm_spec.specs.Log.{Log}
 use Rattle.crsm_spec.specs.Replica.{fresh}
 use Rattle.crsm_spec.specs.Step.{boot, boot_again, first_boot, founding_boot}
-use Rattle.crsm_shell.specs.Booting.{IsBadLog, IsLeftByBoot, RefusesBoot, boot_body}
+use Rattle.crsm_shell.specs.Booting.{IsBadLog, IsLeftByBoot, RefusesBoot}
 use Rattle.crsm_shell.specs.Shell.{HasLog}
 use Rattle.crsm_shell.specs.declared.errors.BootError.{BootError}
 use Rattle.crsm_shell.specs.declared.errors.BootError.TheVariants as boots

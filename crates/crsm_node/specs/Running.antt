@@ -13,7 +13,7 @@ use Rattle.crsm_text_sheet.specs.Sheets.{entry_line, sheet_of, sheet_text}
 use Rattle.crsm_disk.specs.Meaning.{LeavesOnly, Meaning as DiskMeaning}
 use Rattle.crsm_ledger.specs.Recovered.{AreKept}
 use Rattle.crsm_log.specs.Claim.{IsOpenTo, claimed}
-use Rattle.crsm_log.specs.Format.{bodies_of, cluster_of, found, gate_in, reading}
+use Rattle.crsm_log.specs.Format.{cluster_of, found, gate_in, reading}
 use Rattle.crsm_log.specs.Log.{Goes}
 use Rattle.crsm_port.specs.Cluster.{clustered, over}
 use Rattle.crsm_port.specs.Meaning.{Framing, Meaning as PortMeaning}
