@@ -59,11 +59,13 @@ def dumped(program: str, node: Node, part: List[str]) -> List[str]:
 
 
 def keys_of(lines: List[str]) -> Dict[str, str]:
-    """The keys of a dump with their values, which stand in ascending order."""
+    """The keys of a dump with their values, which stand in ascending order and are counted by the last line."""
     rows = [line.split()[1:] for line in lines if line.startswith("key ")]
     names = [key for key, _ in rows]
     if names != sorted(set(names)):
         raise Wrong(f"the keys do not rise: {names}")
+    if lines[-1] != f"keys {len(rows)}":
+        raise Wrong(f"the last line is {lines[-1]}, and there are {len(rows)} keys")
     return dict(rows)
 
 

@@ -128,6 +128,11 @@ def expect(said: str, wanted: str) -> None:
         raise Wrong(f"'{said}', where '{wanted}' was expected")
 
 
+def counted(keys: List[str]) -> List[str]:
+    """The lines of these keys, and behind them their number, which is the end of a dump."""
+    return [*keys, f"keys {len(keys)}"]
+
+
 def longest(program: str, old: Cluster) -> Node:
     """The node whose log has executed most."""
     return max(old.nodes, key=lambda node: executed(dumped(program, node, ["state"])))
@@ -141,13 +146,12 @@ def move(program: str, folder: str, old: Cluster, writer: Writer, fence: int) ->
     new = Cluster(program, f"{folder}/new")
     try:
         new.start()
-        expect(loaded(new, folder, keys[:half]), f"{half} keys put, 0 there already, 0 with another value")
+        expect(loaded(new, folder, counted(keys[:half])), f"{half} keys put, 0 there already, 0 with another value")
         rest = len(keys) - half
-        counted = [*lines, f"keys {len(keys)}"]
-        expect(loaded(new, folder, counted), f"{rest} keys put, {half} there already, 0 with another value")
+        expect(loaded(new, folder, lines), f"{rest} keys put, {half} there already, 0 with another value")
         with new.client(ASKER, new.addresses[:1]) as store:
             writer.compare(store)
-        if dumped(program, new.nodes[0], ["keys"]) != keys:
+        if dumped(program, new.nodes[0], ["keys"]) != counted(keys):
             raise Wrong("the keys of the new node's dump are not those of the old one")
         see_lock(new, fence)
         see_many(new, folder)
@@ -158,7 +162,7 @@ def move(program: str, folder: str, old: Cluster, writer: Writer, fence: int) ->
 
 def see_many(new: Cluster, folder: str) -> None:
     """So many keys are loaded that each client's file is written more than once; loaded again, nothing is missing."""
-    lines = [f"key {at:08x} 61" for at in range(MANY)]
+    lines = counted([f"key {at:08x} 61" for at in range(MANY)])
     expect(loaded(new, folder, lines), f"{MANY} keys put, 0 there already, 0 with another value")
     expect(loaded(new, folder, lines), f"0 keys put, {MANY} there already, 0 with another value")
 

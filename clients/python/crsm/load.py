@@ -21,17 +21,19 @@ class NotADump(ValueError):
     """The input has no line, or one that no dump has in its place."""
 
 
-def keys_of(lines: Iterable[bytes]) -> dict[bytes, bytes]:
-    """Returns the keys and values of a dump's lines, in the order of the keys.
+class CutDump(NotADump):
+    """The last line of the input is not `keys N` with the number of the keys before it, so some of them are missing."""
 
-    The last line may be `keys N`, with the number of the keys. Raises `NotADump`, which names the line and the cause,
-    for lines that are none of a dump, for keys that do not rise, and for another number of keys; where a whole dump
-    ends before its clients; and where no line came: then the program that was to write them has failed. Lines of keys
-    alone that were cut behind a whole one are fewer keys, unless they are counted.
+
+def keys_of(lines: Iterable[bytes]) -> dict[bytes, bytes]:
+    """Returns the keys and values of a dump's lines, in the order of the keys. All lines are read before it returns.
+
+    Raises `NotADump`, which names the line and the cause, for a line that is none of a dump, for keys that do not rise,
+    and where no line came: then the program that was to write them has failed. Raises `CutDump` where the last line is
+    not `keys N`, has no line feed, or has another number than there are lines of keys.
     """
     keys: dict[bytes, bytes] = {}
     number, last, is_counted = 0, b"", False
-    others: dict[str, list[str]] = {}
     for number, line in enumerate(lines, 1):
         try:
             word, rest = _words_of(line)
@@ -43,20 +45,19 @@ def keys_of(lines: Iterable[bytes]) -> dict[bytes, bytes]:
                 key, value = _row_of(rest)
                 _check_rises(last, key, keys)
                 keys[key], last = value, key
-            else:
-                others[word] = rest
         except NotADump as cause:
-            raise NotADump(f"line {number}: {cause}") from None
+            raise type(cause)(f"line {number}: {cause}") from None
     if not number:
-        raise NotADump("no line came: a whole dump has some, even of an empty store")
-    _check_whole(others)
+        raise NotADump("no line came: a dump has some, even of an empty store")
+    if not is_counted:
+        raise CutDump(f"line {number}: the last line does not give the number of the keys, so the dump was cut")
     return keys
 
 
 def _words_of(line: bytes) -> tuple[str, list[str]]:
     """Returns the first word of a line that ends with a line feed, and the others."""
     if not line.endswith(b"\n"):
-        raise NotADump("it has no end, so the dump was cut")
+        raise CutDump("it has no end, so the dump was cut")
     word, *rest = line[:-1].decode("latin-1").split(" ")
     if word not in {"key", "keys", *OTHERS}:
         raise NotADump(f"it is none of a dump: {line[:60]!r}")
@@ -89,20 +90,12 @@ def _check_rises(last: bytes, key: bytes, keys: Container[bytes]) -> None:
         raise NotADump(f"the key {key.hex()} stands behind {last.hex()}, and keys rise")
 
 
-def _check_whole(others: dict[str, list[str]]) -> None:
-    """Sees by the lines without a key that a dump which has some goes on to its clients, behind the keys. There is one
-    at least where a command was executed."""
-    has_clients = "client" in others or others.get("executed") == ["0"]
-    if others and not ("promised" in others and has_clients):
-        raise NotADump("the input ends before the clients of the store, so the dump was cut")
-
-
 def _check_count(words: Sequence[str], count: int) -> bool:
     """Sees that the number of the keys is this one, and returns true."""
     if len(words) != 1 or re.fullmatch("0|[1-9][0-9]*", words[0], re.ASCII) is None:
         raise NotADump("a number stands behind the word `keys`")
     if words[0] != str(count):
-        raise NotADump(f"it names {words[0]} keys, and {count} stand before it")
+        raise CutDump(f"it names {words[0]} keys, and {count} stand before it")
     return True
 
 

@@ -14,6 +14,7 @@ from unittest import mock
 
 from crsm import KeptNumbers, __version__
 from crsm.commands import main
+from crsm.load import CutDump, NotADump, keys_of
 
 from .small import ClusterTest, lock_value
 
@@ -89,21 +90,21 @@ class CommandsTest(ClusterTest):
 
     def test_load(self):
         dump = b"cluster 9\nbodies 3\nepoch 0\nmembers 0,1\nreplicas 0,1\nexecuted 4\npromised 0 0\n"
-        dump += b"key 61 62\nkey 63 empty\nclient 7 2 done\n"
+        dump += b"key 61 62\nkey 63 empty\nclient 7 2 done\nkeys 2\n"
         self.check(["load", "--clients", "2"], 0, b"2 keys put, 0 there already, 0 with another value\n", given=dump)
         self.assertEqual(self.store.rows, {b"a": b"b", b"c": b""})
         self.store.rows = {b"a": b"b", b"c": b"x"}
         self.check(["load"], 1, b"0 keys put, 1 there already, 1 with another value\n", "another value: 63", given=dump)
         self.check(["load", "--replace"], 0, b"1 keys put, 1 there already, 0 with another value\n", given=dump)
         self.assertEqual(self.store.rows, {b"a": b"b", b"c": b""})
-        empty = b"bodies 0\nepoch 0\nmembers 0,1\nreplicas 0,1\nexecuted 0\npromised 0 0\n"
+        empty = b"bodies 0\nepoch 0\nmembers 0,1\nreplicas 0,1\nexecuted 0\npromised 0 0\nkeys 0\n"
         self.check(["load"], 0, b"0 keys put, 0 there already, 0 with another value\n", given=empty)
-        self.check(["load"], 1, err="full", given=b"key 61 62\nkey 62 62\nkey 63 64\nkey 64 65\n")
+        self.check(["load"], 1, err="full", given=b"key 61 62\nkey 62 62\nkey 63 64\nkey 64 65\nkeys 4\n")
 
     def test_load_of_many_keys(self):
         # (more than the numbers that eight files are reserved for at first)
         self.store.room = 5000
-        dump = b"".join(b"key %08x 61\n" % at for at in range(5000))
+        dump = b"".join(b"key %08x 61\n" % at for at in range(5000)) + b"keys 5000\n"
         self.check(["load"], 0, b"5000 keys put, 0 there already, 0 with another value\n", given=dump)
         self.assertEqual((len(self.store.rows), len(self.store.clients)), (5000, 8))
 
@@ -119,12 +120,12 @@ class CommandsTest(ClusterTest):
 
         self.store.change = looks
         put = b"3 keys put, 0 there already, 0 with another value\n"
-        self.check(["load", "--clients", "1"], 0, put, given=b"key 61 62\nkey 62 62\nkey 63 62\n")
+        self.check(["load", "--clients", "1"], 0, put, given=b"key 61 62\nkey 62 62\nkey 63 62\nkeys 3\n")
         self.assertEqual(free, ["client-1"] * 6)
 
     def test_load_and_another_command_at_a_time(self):
         self.store.room = 1500
-        dump = b"".join(b"key %08x 61\n" % at for at in range(1500))
+        dump = b"".join(b"key %08x 61\n" % at for at in range(1500)) + b"keys 1500\n"
         process = self.started("load", "--clients", "1")
         process.stdin.write(dump)
         process.stdin.close()
@@ -168,26 +169,37 @@ class CommandsTest(ClusterTest):
             (b"key 61 62\nkeys\n", "line 2: a number stands behind the word `keys`"),
             (b"key 61 62\nkeys 1\nkey 62 62\n", "line 3: it stands behind the number of the keys"),
             (b"keys 0\nkeys 0\n", "line 2: it stands behind the number of the keys"),
+            (b"key 61 62\n", "line 1: the last line does not give the number of the keys, so the dump was cut"),
+            (b"executed 3\npromised 0 0\nclient 7 2 done\nkeys 2\n", "line 4: it names 2 keys, and 0 stand before it"),
         ):
             with self.subTest(given):
                 self.check(["load"], 2, err=f"crsm: {why}", given=given)
-        self.check(["load", "--clients", "0"], 2, err="one client", given=b"key 61 62\n")
+        self.check(["load", "--clients", "0"], 2, err="one client", given=b"key 61 62\nkeys 1\n")
         self.assertEqual(self.served.taken, [])
 
     def test_load_of_a_dump_that_was_cut(self):
-        lines = b"bodies 3\nepoch 0\nmembers 0,1\nreplicas 0,1\nexecuted 4\npromised 0 0\nkey 61 62\nkey 62 62\n"
-        dump = lines + b"client 7 2 done\nclient 8 2 done\n"
-        for size in range(len(dump)):
-            if not dump[:size].endswith(b"done\n"):
-                self.check(["load"], 2, given=dump[:size])
+        keys = b"".join(b"key %04x 62\n" % at for at in range(12)) + b"keys 12\n"
+        state = b"bodies 3\nepoch 0\nmembers 0,1\nreplicas 0,1\nexecuted 4\npromised 0 0\n"
+        for dump in keys, state + keys[:-8] + b"client 7 2 done\nkeys 12\n":
+            for size in range(len(dump)):
+                with self.assertRaises(CutDump if size else NotADump):
+                    keys_of(dump[:size].splitlines(keepends=True))
+            for at in range(len(lines := dump.splitlines(keepends=True))):
+                if lines[at].startswith(b"key"):
+                    with self.assertRaises(CutDump):
+                        keys_of(lines[:at] + lines[at + 1 :])
+            self.assertEqual(len(keys_of(lines)), 12)
+        self.check(["load"], 2, err="line 11: it names 12 keys, and 10 stand before it", given=keys[24:])
+        self.check(["load"], 2, err="line 12: the last line does not give the number of the keys", given=keys[:-8])
         self.assertEqual(self.served.taken, [])
-        self.check(["load"], 2, err="the input ends before the clients of the store, so the dump was cut", given=lines)
-        for whole in dump, dump.replace(b"client 8 2 done\n", b""):
-            self.check(["load", "--replace"], 0, mock.ANY, given=whole)
 
-    def test_load_of_a_dump_that_counts(self):
-        dump = b"executed 3\npromised 0 0\nkey 61 62\nkey 6100 empty\nclient 7 2 done\nkeys 2\n"
-        self.check(["load"], 0, b"2 keys put, 0 there already, 0 with another value\n", given=dump)
+    def test_load_of_a_dump_of_keys(self):
+        self.check(
+            ["load"],
+            0,
+            b"2 keys put, 0 there already, 0 with another value\n",
+            given=b"key 61 62\nkey 6100 empty\nkeys 2\n",
+        )
         self.assertEqual(self.store.rows, {b"a": b"b", b"a\0": b""})
         self.check(["load"], 0, b"0 keys put, 0 there already, 0 with another value\n", given=b"keys 0\n")
 
@@ -266,7 +278,7 @@ class CommandsTest(ClusterTest):
         unknown = socket.gaierror(-2, "Name or service not known")
         with mock.patch("socket.gethostbyname", side_effect=unknown):
             for words in (["get", "a"], ["load"], ["bench"]):
-                self.check([*words, "--nodes", "nowhere:7000"], 6, err="no such host", given=b"key 61 62\n")
+                self.check([*words, "--nodes", "nowhere:7000"], 6, err="no such host", given=b"key 61 62\nkeys 1\n")
         self.store.rows[b"a"] = b"1"
         with open("/dev/full", "wb") as full:
             self.assertEqual(self.ran("get", "a", stdout=full)[0], 5)

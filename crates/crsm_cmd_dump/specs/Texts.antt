@@ -49,8 +49,16 @@ keys_text log = flat_map key_row (after (executed log)).keys
 abbrev pub clients_text : Log → Text
 clients_text log = flat_map client_row (after (executed log)).clients
 
--- the wanted part
+-- the lines of the wanted part
+abbrev pub lines_text : Part → (n cluster bodies : ℕ) → Log → Text
+lines_text Part.All n cluster bodies log = state_text n cluster bodies log ++ (keys_text log ++ clients_text log)
+lines_text Part.State n cluster bodies log = state_text n cluster bodies log ++ clients_text log
+lines_text Part.Keys n cluster bodies log = keys_text log
+
+-- how many keys the executed commands leave
+abbrev pub count_row : Log → Text
+count_row log = row (codes "keys") (length (after (executed log)).keys ∷ [])
+
+-- they, and the number of the keys as the last line, whichever part is wanted
 abbrev pub dump_text : Part → (n cluster bodies : ℕ) → Log → Text
-dump_text Part.All n cluster bodies log = state_text n cluster bodies log ++ (keys_text log ++ clients_text log)
-dump_text Part.State n cluster bodies log = state_text n cluster bodies log ++ clients_text log
-dump_text Part.Keys n cluster bodies log = keys_text log
+dump_text part n cluster bodies log = lines_text part n cluster bodies log ++ count_row log

@@ -4,10 +4,10 @@ ghost use Rattle.std.specs.Prelude.{◌≡◌, ◌++◌, OnOk, IfOk, length};
 ghost use Rattle.std.specs.List.{flat_map};
 ghost use Rattle.crsm_base.specs.Store.{after};
 ghost use Rattle.crsm_ledger.specs.Ledger.{WhereStands};
-ghost use Rattle.crsm_spec.specs.Log.{executed};
+ghost use Rattle.crsm_spec.specs.Log.{Log, executed};
 ghost use Rattle.crsm_text.specs.Values.{value_text};
 ghost use Rattle.crsm_cmd_dump.specs.Catalogs.{Lists, client_of, clients_of};
-ghost use Rattle.crsm_cmd_dump.specs.Texts.{client_row, cluster_row, dump_text, key_row, replicas_row, row, state_text};
+ghost use Rattle.crsm_cmd_dump.specs.Texts.{client_row, cluster_row, count_row, dump_text, key_row, lines_text, replicas_row, row, state_text};
 
 use crate::catalog::{Catalog, Clients, Kept, Keys};
 use crate::part::Part;
@@ -113,8 +113,8 @@ fn push_clients(out: &mut Bytes, clients: &Clients) -> Result<(), NoMemory>
     Ok(())
 }
 
-/// Appends the wanted text of a log with this cluster, 0 for none, and this many bodies, which lead to a ledger and to
-/// the catalog of its store. `NoMemory` if memory runs out.
+/// Appends the lines of the wanted part of a log with this cluster, 0 for none, and this many bodies, which lead to a
+/// ledger and to the catalog of its store. `NoMemory` if memory runs out.
 fn push_part(
     out: &mut Bytes,
     part: Part,
@@ -123,7 +123,7 @@ fn push_part(
     ledger: &Ledger,
     catalog: &Catalog,
 ) -> Result<(), NoMemory>
-    ensures { WhereStands ledger.now (λ me n log. Lists catalog.now (after (executed log)) → OnOk result (out.new ≡ out.old ++ dump_text part n cluster bodies log)) }
+    ensures { WhereStands ledger.now (λ me n log. Lists catalog.now (after (executed log)) → OnOk result (out.new ≡ out.old ++ lines_text part n cluster bodies log)) }
 {
     match part {
         Part::All => {
@@ -144,6 +144,13 @@ fn push_part(
     }
 }
 
+/// Appends the number of the keys of a catalog, the last line: without it a dump was cut. `NoMemory` if memory runs out.
+fn push_count(out: &mut Bytes, catalog: &Catalog) -> Result<(), NoMemory>
+    ensures { (log : Log) → Lists catalog.now (after (executed log)) → OnOk result (out.new ≡ out.old ++ count_row log) }
+{
+    push_row(out, b"keys", &[catalog.keys().len() as u64])
+}
+
 /// Returns the wanted text of a log with this cluster, 0 for none, and this many bodies, which lead to a ledger.
 /// `NoMemory` if memory runs out.
 pub(crate) fn text_of(
@@ -158,5 +165,6 @@ pub(crate) fn text_of(
     let catalog = Catalog::of(alloc, ledger)?;
     let mut text = Bytes::new(alloc);
     push_part(&mut text, part, cluster, bodies, ledger, &catalog)?;
+    push_count(&mut text, &catalog)?;
     Ok(text)
 }

@@ -137,7 +137,8 @@ pub(crate) const DUMP: Help = Help {
   ME     the node's number, 0 to 14
   N      with how many nodes its cluster began, 1 to 15
   state  all lines but those of the keys
-  keys   the lines of the keys alone, 'key KEY VALUE' in hexadecimal, in ascending order
+  keys   the lines of the keys alone, 'key KEY VALUE' in hexadecimal, in ascending order,
+         and 'keys N', their number
 
 The log is read as a start of the node reads it, and nothing is written to it; the node may run meanwhile.
 
