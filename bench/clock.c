@@ -1,5 +1,6 @@
-/* The system's clock as a node reads it, moved by so many microseconds as the file CLOCK_OFFSET has, a signed number of
- * eight bytes that may change while the node runs: `clocks.py` builds it and loads it. */
+/* The system's clock as a node reads it, wrong by what the file CLOCK_OFFSET has: two signed numbers of eight bytes, in
+ * microseconds, which may change while the node runs. The clock is moved by the first, and where the second is not 0 it
+ * stands there instead. `clocks.py` builds it and loads it. */
 
 #define _GNU_SOURCE
 #include <dlfcn.h>
@@ -10,15 +11,19 @@
 #include <time.h>
 #include <unistd.h>
 
-static volatile int64_t *offset;
+struct wrong {
+    int64_t offset, stands;
+};
+
+static const volatile struct wrong *wrong;
 
 __attribute__((constructor)) static void begin(void) {
     const char *path = getenv("CLOCK_OFFSET");
     int file = path ? open(path, O_RDONLY) : -1;
-    void *at = mmap(NULL, sizeof *offset, PROT_READ, MAP_SHARED, file, 0);
+    void *at = mmap(NULL, sizeof *wrong, PROT_READ, MAP_SHARED, file, 0);
     if (at == MAP_FAILED)
         _exit(98);
-    offset = at;
+    wrong = at;
     close(file);
 }
 
@@ -27,8 +32,10 @@ int clock_gettime(clockid_t id, struct timespec *now) {
     if (!next)
         next = (int (*)(clockid_t, struct timespec *))dlsym(RTLD_NEXT, "clock_gettime");
     int done = next(id, now);
-    if (done == 0 && id == CLOCK_REALTIME && offset) {
-        int64_t micros = now->tv_sec * INT64_C(1000000) + now->tv_nsec / 1000 + *offset;
+    if (done == 0 && id == CLOCK_REALTIME && wrong) {
+        int64_t stands = wrong->stands, micros = now->tv_sec * INT64_C(1000000) + now->tv_nsec / 1000 + wrong->offset;
+        if (stands != 0)
+            micros = stands;
         now->tv_sec = micros / 1000000;
         now->tv_nsec = micros % 1000000 * 1000 + now->tv_nsec % 1000;
     }

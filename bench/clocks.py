@@ -124,6 +124,32 @@ class Notes(NamedTuple):
 # ---- nodes with clocks that can be moved
 
 
+def built(folder: str) -> str:
+    """The path of the library that `clock.c` becomes, built in this folder."""
+    library = f"{folder}/clock.so"
+    subprocess.run(["cc", "-O1", "-shared", "-fPIC", "-o", library, f"{HERE}/clock.c", "-ldl"], check=True)
+    return library
+
+
+class WrongClock:
+    """The clock of a node that starts in this environment, which can be moved or stopped while the node runs."""
+
+    def __init__(self, path: str, library: str):
+        with open(path, "w+b") as file:
+            file.write(bytes(16))
+            file.flush()
+            self._wrong = mmap.mmap(file.fileno(), 16)
+        self.environment = {**os.environ, "LD_PRELOAD": library, "CLOCK_OFFSET": path}
+
+    def move(self, offset: int) -> None:
+        """Lets it go on, moved by so many microseconds."""
+        self._wrong[:] = struct.pack("=qq", offset, 0)
+
+    def stop(self, at: int) -> None:
+        """Lets it stand at this many microseconds."""
+        self._wrong[:] = struct.pack("=qq", 0, at)
+
+
 class Cluster:
     """Three nodes and a client of each."""
 
@@ -133,14 +159,9 @@ class Cluster:
         peers = ",".join(text_of(it) for it in self.addresses)
         self.nodes = [Node(program, f"{folder}/{at}", at, NODES, peers) for at in range(NODES)]
         self.clients = [Prober(1000 + at, address) for at, address in enumerate(self.addresses)]
-        self._offsets: List[mmap.mmap] = []
-        for it in self.nodes:
-            path = f"{folder}/offset-{it.number}"
-            with open(path, "w+b") as file:
-                file.write(bytes(8))
-                file.flush()
-                self._offsets.append(mmap.mmap(file.fileno(), 8))
-            it.environment = {**os.environ, "LD_PRELOAD": library, "CLOCK_OFFSET": path}
+        self._clocks = [WrongClock(f"{folder}/clock-{at}", library) for at in range(NODES)]
+        for it, clock in zip(self.nodes, self._clocks):
+            it.environment = clock.environment
 
     def start(self) -> None:
         """Starts all, and waits until each client is answered."""
@@ -153,7 +174,7 @@ class Cluster:
     def move(self, row: Row, offset: int) -> None:
         """Moves the clocks of a row."""
         for at in row.nodes:
-            self._offsets[at][:] = struct.pack("=q", offset)
+            self._clocks[at].move(offset)
 
     def silent(self, since: float) -> List[int]:
         """The nodes whose clients have no answer to a command that was asked since then."""
@@ -240,8 +261,7 @@ def main() -> int:
         print("clocks: no cc here, so nothing was tried")
         return 0
     folder = tempfile.mkdtemp(prefix="crsm-clocks-")
-    library = f"{folder}/clock.so"
-    subprocess.run(["cc", "-O1", "-shared", "-fPIC", "-o", library, f"{HERE}/clock.c", "-ldl"], check=True)
+    library = built(folder)
     print("| clock of node 2 | before: its clients | others | while: its | others | after: its | others | back |")
     print("|---|---|---|---|---|---|---|---|")
     try:

@@ -35,6 +35,8 @@ HEALTHY = 0.8
 RECOVERED_WITHIN = 1.0
 # A disk that has much to write may keep nodes waiting at first.
 STARTED_WITHIN = 30.0
+# What the relay counts of a link.
+COUNTED = ["taken", "lost", "packed", "heads", "tails"]
 # How much less is enough where a check asks only whether nodes live.
 PATIENCE = 5.0
 
@@ -62,6 +64,14 @@ class Relay:
         self.process.stdin.write(command + "\n")
         if self.process.stdout.readline() != "ok\n":
             raise Broken(f"the relay does not take `{command}`")
+
+    def count(self, sender: int, receiver: int) -> Dict[str, int]:
+        """How many packets of a link there were of each kind."""
+        self.process.stdin.write(f"count {sender} {receiver}\n")
+        numbers = map(int, self.process.stdout.readline().split())
+        if self.process.stdout.readline() != "ok\n":
+            raise Broken("the relay does not count")
+        return dict(zip(COUNTED, numbers))
 
     def stop(self) -> None:
         """Ends it."""
