@@ -193,7 +193,7 @@ static long due_of(const struct link *link, int kind) {
 static void note(struct link *link, const unsigned char *packet, long length, int kind) {
     link->heads += kind == IS_HEAD;
     link->tails += kind == IS_TAIL;
-    link->packed += is_packed(packet, length) && packet[1] == BUNDLE;
+    link->packed += kind == OTHER && is_packed(packet, length);
 }
 
 /* Returns whether a packet is to be handed on at once. */

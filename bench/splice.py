@@ -34,10 +34,12 @@ NODES, STEADY, RESTARTED, BEHIND = 3, 0, 1, 2
 WEATHER = ["loss 100", "reorder 500 10"]
 RESTARTS, SHORT_RESTARTS = 100, 6
 SETTLED_WITHIN = 15.0
-RESEND, OPERATE_AGAIN = 0.2, 1.0
+RESEND, PAUSE, OPERATE_AGAIN = 0.2, 0.02, 1.0
 # So many commands stand in a page, which is one part and five fragments, and so many further on the second one begins.
-PAGE, FURTHER = 24, 4
+PAGE, FURTHER = 24, 8
 VALUE_BYTES = 200
+# Why a node refuses a command.
+NOT_LIVE = 1
 # The bytes of a part that no other part of its sender has, in hexadecimal; a part begins with 3.
 PART, NAME_DIGITS = "03", 72
 
@@ -71,35 +73,53 @@ class Clients:
         put = bytes([2, len(key)]) + key + struct.pack(">H", VALUE_BYTES) + value.ljust(VALUE_BYTES, b".")
         return struct.pack(">BQQ", 4, client, self._number) + put
 
-    def _take(self, waiting: Dict[int, Tuple[str, int]]) -> None:
-        """Takes the replies that are there, and drops from the waiting ones those that are answered."""
+    def _take(self, waiting: Dict[int, Tuple[str, int]]) -> bool:
+        """Takes the replies that come within a moment, and drops from the waiting ones those that are answered; whether
+        one was refused."""
+        self._socket.settimeout(PAUSE)
+        is_refused = False
         try:
-            while True:
+            while waiting:
                 reply = self._socket.recv(9000)
                 client, number = struct.unpack(">QQ", reply[1:17])
                 if number == self._number and reply[17] == 0:
                     waiting.pop(client, None)
+                is_refused |= number == self._number and reply[17] != 0
         except socket.timeout:
             pass
+        return is_refused
 
-    def put(self, addresses: Sequence[Tuple[str, int]], again: Callable[[], None] = lambda: None) -> None:
-        """Puts a value at each of these addresses, and waits for the answers; asks again, and calls `again` at times."""
+    def is_left_out(self, address: Tuple[str, int]) -> bool:
+        """Whether a node says within a moment that it is no member that is live."""
         self._number += 1
-        began, called = time.monotonic(), 0.0
+        self._socket.sendto(self._datagram(1), address)
+        self._socket.settimeout(RESEND)
+        try:
+            while True:
+                reply = self._socket.recv(9000)
+                if struct.unpack(">QQ", reply[1:17]) == (1, self._number):
+                    return reply[17] == NOT_LIVE
+        except socket.timeout:
+            return False
+
+    def put(self, addresses: Sequence[Tuple[str, int]], late: Callable[[], None] = lambda: None) -> None:
+        """Puts a value at each of these addresses and waits for the answers; calls `late` where they take a while."""
+        self._number += 1
+        began, called = time.monotonic(), OPERATE_AGAIN
         waiting = dict(enumerate(addresses, 1))
         while waiting:
             passed = time.monotonic() - began
             if passed > SETTLED_WITHIN:
                 raise Broken(f"{sorted(map(text_of, waiting.values()))} do not answer within {SETTLED_WITHIN:.0f} s")
             if passed >= called:
-                again()
+                late()
                 called = passed + OPERATE_AGAIN
             for client, address in waiting.items():
                 self._socket.sendto(self._datagram(client), address)
             until = time.monotonic() + RESEND
             while waiting and time.monotonic() < until:
-                self._socket.settimeout(0.02)
-                self._take(waiting)
+                if self._take(waiting):
+                    break
 
 
 class Cluster:
@@ -136,10 +156,25 @@ class Cluster:
         """Puts so many values at node 0."""
         self.clients.put([self.addresses[STEADY]] * count)
 
-    def await_members(self, *members: int) -> None:
-        """Asks for these as members until each has answered a put."""
+    def await_answers(self, *members: int) -> None:
+        """Waits until each of these has answered a put; asks for them as members where that takes a while."""
+        self.clients.put([self.addresses[at] for at in members], lambda: self.operate(members))
+
+    def operate(self, members: Sequence[int]) -> None:
+        """Asks node 0 for these as members."""
         words = [self.program, "operate", text_of(self.addresses[STEADY]), ",".join(map(str, members))]
-        self.clients.put([self.addresses[at] for at in members], lambda: subprocess.run(words, check=True) and None)
+        subprocess.run(words, check=True)
+
+    def await_out(self) -> None:
+        """Asks for the others as members until node 2 refuses a put."""
+        for _ in range(int(SETTLED_WITHIN / OPERATE_AGAIN)):
+            self.operate([STEADY, RESTARTED])
+            end = time.monotonic() + OPERATE_AGAIN
+            while time.monotonic() < end:
+                if self.clients.is_left_out(self.addresses[BEHIND]):
+                    return
+                time.sleep(0.01)
+        raise Broken(f"node {BEHIND} is not left out within {SETTLED_WITHIN:.0f} s")
 
     def await_count(self, sender: int, receiver: int, name: str, more: int, seconds: float) -> None:
         """Waits until the relay has handed on so many more packets of a kind, or for some time."""
@@ -173,7 +208,7 @@ class Cluster:
 
     def fall_behind(self) -> None:
         """Leaves node 2 out; node 0 tells it of a few commands more, and what it asks node 1 is kept."""
-        self.await_members(STEADY, RESTARTED)
+        self.await_out()
         self.tell(f"hold {BEHIND} {RESTARTED}", f"heads {RESTARTED} {BEHIND}")
         time.sleep(0.1)
         self.put(FURTHER)
@@ -182,20 +217,38 @@ class Cluster:
         self.put(PAGE - FURTHER)
         time.sleep(0.1)
 
+    def executed(self) -> int:
+        """How many commands node 1 has executed, by its log."""
+        words = [self.program, "dump", str(RESTARTED), str(NODES), "state"]
+        with open(self.nodes[RESTARTED].log, "rb") as log:
+            told = subprocess.run(words, stdin=log, capture_output=True, text=True, check=True).stdout
+        return next(int(line.split()[1]) for line in told.splitlines() if line.startswith("executed "))
+
+    def go_further(self, wanted: int) -> None:
+        """Lets node 1 take part again and execute so many commands; node 2 is told of the epoch, and of no command."""
+        self.clock.move(0)
+        self.tell(f"join {STEADY} {BEHIND}")
+        self.await_answers(STEADY, RESTARTED)
+        self.operate([STEADY, RESTARTED])
+        self.await_answers(STEADY, RESTARTED)
+        time.sleep(0.05)
+        self.tell(f"cut {STEADY} {BEHIND}")
+        self.put(max(0, wanted - self.executed()))
+        time.sleep(0.1)
+
     def round(self) -> None:
         """One round of two restarts."""
         self.fall_behind()
+        before = self.executed()
         self.restart("heads", 1)
-        self.clock.move(0)
-        # (their answers are two commands of those by which the second page begins further on)
-        self.await_members(STEADY, RESTARTED)
-        self.put(FURTHER - 2)
-        time.sleep(0.1)
+        self.go_further(before + FURTHER)
         self.restart("tails", 4)
         time.sleep(0.05)
         self.clock.move(0)
         self.tell("mend", *WEATHER)
-        self.await_members(*range(NODES))
+        self.await_answers(STEADY, RESTARTED)
+        self.operate(range(NODES))
+        self.await_answers(*range(NODES))
 
 
 # ---- what the sheets say
