@@ -21,7 +21,8 @@
      whole A B      ends these two
      mend           ends all of these; what is under way comes when it would have come
      count A B      first writes a line of what A has sent to B so far: TAKEN LOST PACKED HEADS TAILS, the packets that
-                    came and those that were lost, and of those handed on the bundles, the first fragments and the others
+                    came, those that were lost, and of the others the bundles without a part of a control message, the
+                    first fragments and the other fragments
 
    Packets are told by their first bytes: 20 or, of a release before, 17, and a kind, and what has neither is a datagram.
 */

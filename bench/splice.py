@@ -40,23 +40,21 @@ PAGE, FURTHER = 24, 8
 VALUE_BYTES = 200
 # Why a node refuses a command.
 NOT_LIVE = 1
-# The bytes of a part that no other part of its sender has, in hexadecimal; a part begins with 3.
-PART, NAME_DIGITS = "03", 72
+# A part begins with 3, and has its name in 27 bytes: sender, receiver, boot, number, index and count.
+PART, NAME_DIGITS = "03", 54
 
 
 class Row(NamedTuple):
-    """How the clock of node 1 is wrong while it starts."""
+    """How the clock of node 1 is wrong while it starts, by what the clock was when the row began, in microseconds."""
 
     name: str
-    spoil: Callable[[WrongClock], None]
+    spoil: Callable[[WrongClock, int], None]
 
 
-def a_row(name: str) -> Row:
-    """A row by its name."""
-    began = time.time_ns() // 1000
-    if name == "back":
-        return Row("an hour back", lambda clock: clock.move(-HOUR))
-    return Row("a clock that stands", lambda clock: clock.stop(began))
+ROWS = {
+    "back": Row("an hour back", lambda clock, _: clock.move(-HOUR)),
+    "stands": Row("a clock that stands", lambda clock, began: clock.stop(began)),
+}
 
 
 class Clients:
@@ -133,7 +131,8 @@ class Cluster:
         self.clock = WrongClock(f"{folder}/clock", library)
         self.nodes[RESTARTED].environment = self.clock.environment
         self.clients = Clients()
-        self.restarts = 0
+        self.began = time.time_ns() // 1000
+        self.restarts, self.longest = 0, 0.0
 
     def start(self) -> None:
         """Starts all nodes, and waits until they answer."""
@@ -158,7 +157,9 @@ class Cluster:
 
     def await_answers(self, *members: int) -> None:
         """Waits until each of these has answered a put; asks for them as members where that takes a while."""
+        began = time.monotonic()
         self.clients.put([self.addresses[at] for at in members], lambda: self.operate(members))
+        self.longest = max(self.longest, time.monotonic() - began)
 
     def operate(self, members: Sequence[int]) -> None:
         """Asks node 0 for these as members."""
@@ -188,7 +189,7 @@ class Cluster:
         node = self.nodes[RESTARTED]
         node.kill()
         self.tell(f"{passes} {RESTARTED} {BEHIND}")
-        self.row.spoil(self.clock)
+        self.row.spoil(self.clock, self.began)
         node.start()
         self.restarts += 1
         self.await_open(node)
@@ -316,8 +317,9 @@ def one_row(program: str, library: str, row: Row, restarts: int) -> bool:
     cluster.stop()
     wrong, said = wrong_parts(program, cluster.nodes), verdict(program, cluster.nodes)
     print(
-        f"{row.name}: {cluster.restarts} restarts, {seen['heads']} first fragments and {seen['tails']} others;"
-        f" {wrong} parts that nobody sent; audit: {said}" + (f"; LACKS {lacks}" if lacks else ""),
+        f"{row.name}: {cluster.restarts} restarts, answers after {cluster.longest:.1f} s at most;"
+        f" {seen['heads']} first fragments and {seen['tails']} others; {wrong} parts that nobody sent; audit: {said}"
+        + (f"; LACKS {lacks}" if lacks else ""),
         flush=True,
     )
     shutil.rmtree(folder)
@@ -329,14 +331,14 @@ def main() -> int:
     reader = argparse.ArgumentParser(description=__doc__, formatter_class=argparse.RawDescriptionHelpFormatter)
     reader.add_argument("program", type=os.path.abspath)
     reader.add_argument("--restarts", type=int, default=RESTARTS)
-    reader.add_argument("--rows", type=lambda text: text.split(","), default=["back", "stands"])
+    reader.add_argument("--rows", type=lambda text: text.split(","), default=list(ROWS))
     reader.add_argument("--short", action="store_true")
     words = reader.parse_args()
     folder = tempfile.mkdtemp(prefix="crsm-splice-")
     try:
         library = built(folder)
         restarts = SHORT_RESTARTS if words.short else words.restarts
-        failed = sum(not one_row(words.program, library, a_row(name), restarts) for name in words.rows)
+        failed = sum(not one_row(words.program, library, ROWS[name], restarts) for name in words.rows)
     finally:
         shutil.rmtree(folder)
     print("splice: ok" if not failed else f"splice: {failed} rows lack something")
