@@ -35,6 +35,8 @@ WEATHER = ["loss 100", "reorder 500 10"]
 RESTARTS, SHORT_RESTARTS = 100, 6
 SETTLED_WITHIN = 15.0
 RESEND, PAUSE, OPERATE_AGAIN = 0.2, 0.02, 1.0
+# A node says once a second whom it hears, and one that has said three times that it does not hear another is not heard.
+HEARING = 1.2
 # So many commands stand in a page, which is one part and five fragments, and so many further on the second one begins.
 PAGE, FURTHER = 24, 8
 VALUE_BYTES = 200
@@ -227,6 +229,7 @@ class Cluster:
     def go_further(self, wanted: int) -> None:
         """Lets node 1 take part again and execute so many commands; node 2 is told of the epoch, and of no command."""
         self.clock.move(0)
+        heard = time.monotonic() + HEARING
         self.tell(f"join {STEADY} {BEHIND}")
         for _ in range(2):
             self.operate([STEADY, RESTARTED])
@@ -234,13 +237,12 @@ class Cluster:
         time.sleep(0.05)
         self.tell(f"cut {STEADY} {BEHIND}")
         self.put(max(0, wanted - self.executed()))
-        time.sleep(0.1)
+        time.sleep(max(0.1, heard - time.monotonic()))
 
     def round(self) -> None:
         """One round of two restarts."""
         self.fall_behind()
         before = self.executed()
-        # (a node whose clock goes on from there within 2 s still hears the others, as they want it)
         self.began = time.time_ns() // 1000
         self.restart("heads", 1)
         self.go_further(before + FURTHER)
