@@ -27,8 +27,11 @@ from .protocol import (
 LEAST_RESEND = 0.1
 # What was refused is no entry: it is sent again after this time, as an epoch ends in tens of milliseconds.
 AFTER_REFUSAL = 0.03
-# The refusal of a node that is no member, and those of one that will answer soon: its epoch ends, or has ended.
-NO_PART, EPOCH_ENDS = 1, (2, 6)
+# A node without room is spared: the pause doubles up to this one with each such refusal, and lasts what that took.
+MOST_PAUSE = 1.0
+# The refusal of a node that is no member, those of one that will answer soon, as its epoch ends or has ended, and those
+# of one without room.
+NO_PART, EPOCH_ENDS, NO_ROOM = 1, (2, 6), (3, 4)
 # How long a node that was silent, and one that takes no part, is asked only where no other one is left.
 SILENT_FOR, NO_PART_FOR = 10.0, 2.0
 
@@ -83,6 +86,7 @@ class Exchange:
         self._mark, self._name, self._ring, self._times = mark, name, ring, times
         self._asked: set[Address] = set()
         self._sent, self._refused = 0, 0
+        self._asked_at, self._pause = now, AFTER_REFUSAL
         self._due = now
         self._leave = now + times.node_timeout
         self._deadline = times.end(now)
@@ -102,6 +106,7 @@ class Exchange:
         self._due = now + resend if now + 2 * resend <= self._deadline else self._deadline
         address = self._ring.nodes[self._ring.at]
         self._asked.add(address)
+        self._asked_at = now
         return address
 
     def was_sent(self) -> None:
@@ -115,9 +120,10 @@ class Exchange:
     def take(self, data: bytes, source: Address, now: float) -> Answer | None:
         """Takes a datagram from an address. Returns the answer to the command where it has one.
 
-        A refusal leads on to the next node, but for one at the end of an epoch: that node is asked again. What comes
-        from a node that was not asked, or is no reply to this command, changes nothing. A late reply to another command
-        has another client or number (`Numbers`), also where its client had this socket's port before.
+        A refusal leads on to the next node, but for one at the end of an epoch: that node is asked again. After one for
+        want of room a pause follows, longer each time. What comes from a node that was not asked, or is no reply to
+        this command, changes nothing. A late reply to another command has another client or number (`Numbers`), also
+        where its client had this socket's port before.
         """
         if source not in self._asked or not data.startswith(self._mark):
             return None
@@ -130,9 +136,9 @@ class Exchange:
         self._refused += 1
         self.code = reply.outcome
         if source == self._ring.nodes[self._ring.at]:
-            self._due = min(self._due, now + AFTER_REFUSAL)
+            self._due = min(now + self._pause_after(self.code, now), self._deadline)
             if self.code not in EPOCH_ENDS:
-                self._go_on(now, NO_PART_FOR if self.code == NO_PART else 0.0)
+                self._go_on(self._due, NO_PART_FOR if self.code == NO_PART else 0.0)
         return None
 
     def failure(self) -> CrsmError:
@@ -141,6 +147,14 @@ class Exchange:
             return Refused(self.code)
         client, number = self._name
         return NoAnswer(f"no answer to command {number} of client {client} in {self._times.timeout} seconds")
+
+    def _pause_after(self, code: int, now: float) -> float:
+        """Returns how long nothing is sent after a refusal: a node without room is no help to whom asks at once."""
+        if code not in NO_ROOM:
+            return AFTER_REFUSAL
+        pause = max(self._pause, min(now - self._asked_at, MOST_PAUSE))
+        self._pause = min(2 * pause, MOST_PAUSE)
+        return pause
 
     def _go_on(self, now: float, pause: float) -> None:
         """Turns to another node."""

@@ -144,6 +144,14 @@ class ClientTest(ClusterTest):
         with self.assertRaises(NoAnswer):
             self.client(self.dead(), self.dead(), timeout=0.4).get("a")
 
+    def test_a_node_without_room_is_asked_less_often(self):
+        node = self.node(refuse=[3, 4, 3, 3])
+        began = time.monotonic()
+        self.client(node).put("a", "1")
+        # Pauses of 30, 60, 120 and 240 ms.
+        self.assertGreater(time.monotonic() - began, 0.44)
+        self.assertEqual(node.refuse, [])
+
     def test_refused_and_lost_is_no_answer(self):
         with self.assertRaises(NoAnswer):
             self.client(self.node(refuse=[1] * 50), self.dead(), timeout=0.6).put("a", "1")
