@@ -15,6 +15,8 @@ not installed is left out with a word; as root, `--install` gets them. What it s
 import argparse
 import multiprocessing
 import os
+import random
+import resource
 import selectors
 import shutil
 import signal
@@ -25,7 +27,7 @@ import subprocess
 import sys
 import tempfile
 import time
-from typing import Dict, List, NamedTuple, Optional, Tuple
+from typing import Callable, Dict, List, NamedTuple, Optional, Set, Tuple
 
 from nodes import HOST, free_addresses, text_of
 
@@ -57,12 +59,13 @@ class Crsm:
         self.socket.connect(address)
         self.client, self.number, self.request = client + 1, time.time_ns() // 1000, b""
 
-    def ask(self) -> None:
+    def ask(self, is_get: bool = False) -> None:
         """Sends the next command."""
         self.number += 1
         key = key_of(self.client, self.number)
-        put = bytes([2, len(key)]) + key + struct.pack(">H", len(VALUE)) + VALUE
-        self.request = struct.pack(">BQQ", 4, self.client, self.number) + put
+        named = bytes([1 if is_get else 2, len(key)]) + key
+        value = b"" if is_get else struct.pack(">H", len(VALUE)) + VALUE
+        self.request = struct.pack(">BQQ", 4, self.client, self.number) + named + value
         self.again()
 
     def again(self) -> None:
@@ -119,14 +122,12 @@ class Redis(Stream):
 class Etcd(Stream):
     """A client of etcd: calls of gRPC, each a stream of HTTP/2."""
 
-    HEADERS = (
-        b"\x83\x86\x04\x14/etcdserverpb.KV/Put\x01\x09127.0.0.1"
-        b"\x0f\x10\x10application/grpc\x00\x02te\x08trailers"
-    )
+    PUT, RANGE = b"\x14/etcdserverpb.KV/Put", b"\x16/etcdserverpb.KV/Range"
+    HEADERS = b"\x83\x86\x04%s\x01\x09127.0.0.1\x0f\x10\x10application/grpc\x00\x02te\x08trailers"
 
     def __init__(self, address: Address, client: int):
         super().__init__(address, client)
-        self.stream, self.has_answer = -1, False
+        self.stream, self.has_answer, self.is_get, self.is_refused = -1, False, False, False
         # (the largest windows, so that nothing has to be given back)
         settings = self.frame(4, 0, 0, struct.pack(">HI", 4, 2**31 - 1))
         window = self.frame(8, 0, 0, struct.pack(">I", 2**31 - 1 - 65535))
@@ -137,15 +138,28 @@ class Etcd(Stream):
         """A frame of HTTP/2."""
         return struct.pack(">I", len(payload))[1:] + struct.pack(">BBI", kind, flags, stream) + payload
 
-    def ask(self) -> None:
-        """Sends the next command."""
+    def ask(self, is_get: bool = False) -> None:
+        """Makes the call of the next command; its get is linearizable."""
         self.number += 1
+        self.is_get = is_get
+        self.call()
+
+    def call(self) -> None:
+        """Makes the call of the present command."""
         self.stream += 2
-        self.has_answer = False
+        self.has_answer = self.is_refused = False
         key = key_of(self.client, self.number)
-        put = b"\x0a" + bytes([len(key)]) + key + b"\x12" + bytes([len(VALUE)]) + VALUE
-        data = b"\0" + struct.pack(">I", len(put)) + put
-        self.socket.sendall(self.frame(1, 4, self.stream, self.HEADERS) + self.frame(0, 1, self.stream, data))
+        asked = b"\x0a" + bytes([len(key)]) + key
+        if not self.is_get:
+            asked += b"\x12" + bytes([len(VALUE)]) + VALUE
+        data = b"\0" + struct.pack(">I", len(asked)) + asked
+        headers = self.HEADERS % (self.RANGE if self.is_get else self.PUT)
+        self.socket.sendall(self.frame(1, 4, self.stream, headers) + self.frame(0, 1, self.stream, data))
+
+    def again(self) -> None:
+        """Makes the call once more where it was refused: a connection loses nothing."""
+        if self.is_refused:
+            self.call()
 
     def take(self) -> Optional[bool]:
         """Whether the answer came."""
@@ -166,9 +180,8 @@ class Etcd(Stream):
             elif kind == 0 and stream == self.stream and size > 5:
                 self.has_answer = True
             elif kind == 1 and stream == self.stream and flags & 1:
-                if not self.has_answer:
-                    raise ConnectionError("etcd refuses the call")
-                is_over = True
+                is_over = self.has_answer
+                self.is_refused = not self.has_answer
         return is_over
 
 
@@ -235,69 +248,128 @@ class ZooKeeper(Stream):
 # ---- the load
 
 
+class Window(NamedTuple):
+    """How clients ask: an answer counts where it comes between two times of the monotonic clock, a command without an
+    answer goes again after `resend` seconds, and so many of a hundred commands are gets."""
+
+    begin: float
+    end: float
+    resend: float = RESEND
+    gets: int = 0
+
+
 class Load(NamedTuple):
-    """How long each answered command took, in seconds, how many each member answered, and how many were refused."""
+    """How long each answered command took, in seconds, and when its answer came, how many commands each member answered,
+    how many were refused, and how many were sent again."""
 
     took: List[float]
+    came: List[float]
     answered: List[int]
     refused: int
+    resent: int
 
 
-def generate(kind, addresses: List[Address], numbers: List[int], seconds: float, out) -> None:
-    """Runs some clients in this process, and puts out what they saw."""
-    clients = [kind(addresses[at % len(addresses)], at) for at in numbers]
-    selector = selectors.DefaultSelector()
-    for it in clients:
-        selector.register(it.socket, selectors.EVENT_READ, it)
-    now = time.monotonic()
-    begin, end = now + WARM_UP, now + WARM_UP + seconds
-    began: Dict[object, float] = {}
-    due: Dict[object, float] = {}
-    for it in clients:
-        it.ask()
-        began[it], due[it] = now, now + RESEND
-    took: List[float] = []
-    answered, refused = [0] * len(addresses), 0
-    member = {it: at % len(addresses) for it, at in zip(clients, numbers)}
-    looked = now
-    while now < end:
-        for ready, _ in selector.select(BUSY_PAUSE):
-            it = ready.data
-            answer = it.take()
-            now = time.monotonic()
-            if answer:
-                if began[it] >= begin:
-                    took.append(now - began[it])
-                    answered[member[it]] += 1
-                it.ask()
-                began[it], due[it] = now, now + RESEND
-            elif answer is False:
-                due[it] = now + BUSY_PAUSE
-                refused += now >= begin
+class Generator:
+    """Some clients, of which each has one command under way until it is answered."""
+
+    def __init__(self, kind, addresses: List[Address], numbers: List[int], window: Window):
+        self.window = window
+        self.clients = [kind(addresses[at % len(addresses)], at) for at in numbers]
+        self.member = {it: at % len(addresses) for it, at in zip(self.clients, numbers)}
+        self.began: Dict[object, float] = {}
+        self.due: Dict[object, float] = {}
+        self.pausing: Set[object] = set()
+        self.load = Load([], [], [0] * len(addresses), 0, 0)
+        self.refused = self.resent = 0
+        self.chance = random.Random(numbers[0])
+
+    def ask(self, it, now: float) -> None:
+        """Has a client begin its next command."""
+        if self.window.gets and self.chance.randrange(100) < self.window.gets:
+            it.ask(True)
+        else:
+            it.ask()
+        self.began[it], self.due[it] = now, now + self.window.resend
+
+    def take(self, it) -> None:
+        """Takes what came for a client."""
+        answer = it.take()
         now = time.monotonic()
-        if now > looked + BUSY_PAUSE:
-            looked = now
-            for it in clients:
-                if due[it] <= now:
-                    it.again()
-                    due[it] = now + RESEND
-    out.put(Load(took, answered, refused))
+        is_counted = self.window.begin <= now < self.window.end
+        if answer:
+            if is_counted:
+                self.load.took.append(now - self.began[it])
+                self.load.came.append(now)
+                self.load.answered[self.member[it]] += 1
+            self.ask(it, now)
+        elif answer is False:
+            self.due[it] = now + BUSY_PAUSE
+            self.pausing.add(it)
+            self.refused += is_counted
+
+    def ask_again(self, now: float) -> None:
+        """Sends each command again that is due."""
+        for it in self.clients:
+            if self.due[it] <= now:
+                it.again()
+                self.due[it] = now + self.window.resend
+                self.resent += it not in self.pausing and now >= self.window.begin
+                self.pausing.discard(it)
+
+    def run(self) -> Load:
+        """Asks to the end of the window."""
+        selector = selectors.DefaultSelector()
+        for it in self.clients:
+            selector.register(it.socket, selectors.EVENT_READ, it)
+            self.ask(it, time.monotonic())
+        now = looked = time.monotonic()
+        while now < self.window.end:
+            for ready, _ in selector.select(BUSY_PAUSE):
+                self.take(ready.data)
+            now = time.monotonic()
+            if now > looked + BUSY_PAUSE:
+                looked = now
+                self.ask_again(now)
+        for it in self.clients:
+            it.socket.close()
+        return self.load._replace(refused=self.refused, resent=self.resent)
 
 
-def load_members(kind, addresses: List[Address], count: int, seconds: float) -> Load:
+def generate(kind, addresses: List[Address], numbers: List[int], window: Window, out) -> None:
+    """Runs some clients in this process, and puts out what they saw, or why they ended."""
+    try:
+        _, most = resource.getrlimit(resource.RLIMIT_NOFILE)
+        resource.setrlimit(resource.RLIMIT_NOFILE, (most, most))
+        out.put(Generator(kind, addresses, numbers, window).run())
+    except OSError as why:
+        out.put(why)
+
+
+def load_members(kind, addresses: List[Address], count: int, seconds: float, warm_up: float = WARM_UP) -> Load:
     """What so many clients saw."""
     out = multiprocessing.Queue()
+    begin = time.monotonic() + warm_up
+    window = Window(begin, begin + seconds)
     groups = [list(range(at, count, GENERATORS)) for at in range(GENERATORS)]
     processes = [
-        multiprocessing.Process(target=generate, args=(kind, addresses, group, seconds, out)) for group in groups if group
+        multiprocessing.Process(target=generate, args=(kind, addresses, group, window, out)) for group in groups if group
     ]
     for it in processes:
         it.start()
-    loads = [out.get(timeout=seconds + 60) for _ in processes]
+    loads = [out.get(timeout=warm_up + seconds + 60) for _ in processes]
     for it in processes:
         it.join()
-    took = [seconds for it in loads for seconds in it.took]
-    return Load(took, [sum(each) for each in zip(*(it.answered for it in loads))], sum(it.refused for it in loads))
+    return together(loads)
+
+
+def together(loads: List[Load]) -> Load:
+    """What all of them saw; the first that came to nothing is raised."""
+    for it in loads:
+        if isinstance(it, OSError):
+            raise it
+    took, came = ([seconds for it in loads for seconds in getattr(it, name)] for name in ("took", "came"))
+    answered = [sum(each) for each in zip(*(it.answered for it in loads))]
+    return Load(took, came, answered, sum(it.refused for it in loads), sum(it.resent for it in loads))
 
 
 def load(kind, addresses: List[Address], count: int, seconds: float) -> List[float]:
@@ -338,26 +410,39 @@ class Store:
             it.wait()
 
 
-def start_crsm(program: str, folder: str, members: int = 3) -> Tuple[Store, List[Address]]:
-    """Nodes of crsm."""
-    store, addresses = Store(folder), free_addresses(members)
+def crsm_words(program: str, at: int, addresses: List[Address]) -> List[str]:
+    """What starts node `at` of crsm."""
     peers = ",".join(text_of(it) for it in addresses)
+    return [program, "node", str(at), str(len(addresses)), "1000000000000", peers]
+
+
+def start_crsm(
+    program: str, folder: str, members: int = 3, make: Callable[[str], Store] = Store
+) -> Tuple[Store, List[Address]]:
+    """Nodes of crsm."""
+    store, addresses = make(folder), free_addresses(members)
     for at in range(members):
-        store.start(f"crsm-{at}", [program, "node", str(at), str(members), "1000000000000", peers])
+        store.start(f"crsm-{at}", crsm_words(program, at, addresses))
     return store, addresses
 
 
-def start_etcd(_: str, folder: str, members: int = 3) -> Tuple[Store, List[Address]]:
-    """Members of etcd."""
-    store, addresses = Store(folder), free_addresses(2 * members)
-    clients, peers = addresses[:members], addresses[members:]
+def etcd_words(at: int, clients: List[Address], peers: List[Address]) -> List[str]:
+    """What starts member `at` of etcd."""
     all_peers = ",".join(f"m{at}=http://{text_of(it)}" for at, it in enumerate(peers))
+    peer, client = f"http://{text_of(peers[at])}", f"http://{text_of(clients[at])}"
+    words = ["etcd", "--name", f"m{at}", "--data-dir", "data", "--log-level", "error", "--initial-cluster", all_peers]
+    words += ["--listen-peer-urls", peer, "--initial-advertise-peer-urls", peer]
+    return [*words, "--listen-client-urls", client, "--advertise-client-urls", client]
+
+
+def start_etcd(
+    _: str, folder: str, members: int = 3, make: Callable[[str], Store] = Store
+) -> Tuple[Store, List[Address]]:
+    """Members of etcd."""
+    store, addresses = make(folder), free_addresses(2 * members)
+    clients, peers = addresses[:members], addresses[members:]
     for at in range(members):
-        peer, client = f"http://{text_of(peers[at])}", f"http://{text_of(clients[at])}"
-        words = ["etcd", "--name", f"m{at}", "--data-dir", "data", "--log-level", "error", "--initial-cluster", all_peers]
-        words += ["--listen-peer-urls", peer, "--initial-advertise-peer-urls", peer]
-        words += ["--listen-client-urls", client, "--advertise-client-urls", client]
-        store.start(f"etcd-{at}", words)
+        store.start(f"etcd-{at}", etcd_words(at, clients, peers))
     return store, clients
 
 
@@ -426,9 +511,14 @@ def figure_of(found: Load, seconds: float, spent: float) -> Figure:
     """The figure of what clients saw in so many seconds, in which the servers took so many of a processor."""
     took = sorted(found.took)
     evenness = min(found.answered) / max(found.answered) if len(took) >= len(found.answered) else 1.0
-    each = spent * seconds / (seconds + WARM_UP) / len(took)
-    refused = found.refused / (found.refused + len(took))
-    return Figure(len(took) / seconds, took[len(took) // 2], took[len(took) * 99 // 100], each, evenness, refused)
+    each = spent * seconds / (seconds + WARM_UP) / max(1, len(took))
+    refused = found.refused / max(1, found.refused + len(took))
+    return Figure(len(took) / seconds, part_of(took, 50), part_of(took, 99), each, evenness, refused)
+
+
+def part_of(sorted_times: List[float], percent: int) -> float:
+    """The time that so many of a hundred are below, of times that rise; NaN where there are none."""
+    return sorted_times[len(sorted_times) * percent // 100] if sorted_times else float("nan")
 
 
 def measure(name: str, program: str, folder: str, counts: List[int], seconds: float, members: int) -> List[Figure]:
