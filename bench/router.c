@@ -12,9 +12,9 @@
      loss A B P       loses each packet with a likelihood of P in 1,000,000
      cut A            loses what A sends, and what is sent to it
      heal A           ends that
-     counts           answers in JSON what was seen since `zero`: `late` and `latest` say by how many microseconds packets
-                      were handed on too late, on average and at most, `full` counts those that found no room, and each
-                      of `ways` has from, to, packets, their bytes, how many of them were UDP, and how many were lost
+     counts           answers in JSON what was seen since `zero`: `late` and `latest` say by how many microseconds
+                      packets were handed on too late, on average and at most, `full` counts those that found no room,
+                      and each of `ways` has from, to, packets, their bytes, how many were UDP, and how many were lost
      zero             counts anew
      record FILE      writes what sites send into a file, as programs that show packets read it; `record -` ends that
 */

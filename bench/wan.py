@@ -339,9 +339,9 @@ def print_table(name: str, stores: Dict[str, Found]) -> None:
 def print_map(name: str) -> None:
     """What the ways of a map take."""
     where = MAPS[name]
-    best, worst = where.leaders()
+    leading = sorted(set(where.leaders()))
     for at, site in enumerate(where.sites):
-        leaders = ", ".join(f"{where.with_leader(it, at):g} with a leader at {where.sites[it]}" for it in (best, worst))
+        leaders = ", ".join(f"{where.with_leader(it, at):g} with a leader at {where.sites[it]}" for it in leading)
         print(f"{name}, {site}: a command takes {where.least(at):g} ms at least, and {leaders}", flush=True)
 
 
