@@ -79,6 +79,15 @@ class NoNetwork(Exception):
     """This machine lets nobody make such a network; the text says why."""
 
 
+class Weather(NamedTuple):
+    """What befalls packets: each takes up to so many milliseconds more, in order on its way or by which it may overtake
+    others, and so many of a hundred are lost."""
+
+    jitter: float = 0.0
+    scatter: float = 0.0
+    loss: float = 0.0
+
+
 class Counts(NamedTuple):
     """What the router has seen since it was told `zero`: how late packets were in milliseconds, on average and at most, how
     many found no room, and packets and bytes of each way from a site to another."""
@@ -113,10 +122,10 @@ def run(*words: str) -> None:
 
 
 class Wan:
-    """The network of a map: jitter in milliseconds, loss in packets of a hundred."""
+    """The network of a map."""
 
-    def __init__(self, where: Map, jitter: float = 0.0, loss: float = 0.0):
-        self.map, self.jitter, self.loss = where, jitter, loss
+    def __init__(self, where: Map, weather: Weather = Weather()):
+        self.map, self.weather = where, weather
         self.sites = range(len(where.sites))
         self.spaces: List[str] = []
         self.router = None
@@ -148,8 +157,9 @@ class Wan:
         for one in self.sites:
             for other in self.sites:
                 self.tell(f"delay {one} {other} {self.map.round_trip(one, other) * 500:.0f}")
-        self.tell(f"jitter * * {self.jitter * 1000:.0f}")
-        self.tell(f"loss * * {self.loss * 10_000:.0f}")
+        self.tell(f"jitter * * {self.weather.jitter * 1000:.0f}")
+        self.tell(f"scatter * * {self.weather.scatter * 1000:.0f}")
+        self.tell(f"loss * * {self.weather.loss * 10_000:.0f}")
 
     def _start_router(self) -> None:
         """Builds and starts it."""

@@ -1,7 +1,8 @@
 """What nodes at sites far apart answer, beside etcd: latencies by site, throughput, bytes on each link, a site cut off.
 
     python3 bench/wan.py PROGRAM.. [--maps three,five] [--clients 1,16,85,341] [--etcd best,worst] [--gets 0,100]
-                         [--rounds R] [--seconds S] [--jitter MS] [--loss PERCENT] [--cuts] [--patience S]
+                         [--rounds R] [--seconds S] [--jitter MS] [--scatter MS] [--loss PERCENT] [--cuts]
+                         [--patience S]
     python3 bench/wan.py PROGRAM --short
 
 makes the network of `sites.py`, which needs root, /dev/net/tun, `ip` and `cc`: round trips of 83, 101 and 170 ms between
@@ -13,6 +14,7 @@ a hundred came; what a link carries of a cluster that nobody asks, and what all 
 processors the host of this machine took away, and how late the router handed packets on; at the end the medians of the
 rounds, and all rounds. A node has 64 commands of its own under way at most, so 64 in the time of one client's command
 is the most that a site can have: a share of that stands beside. `--cuts` cuts each site off for 2 and for 9 seconds.
+`--jitter` has each packet take up to so much longer, in order on its way, and `--scatter` lets packets overtake others.
 `--patience` waits so long at most until the host takes nothing away. Where other work runs beside, run it by `chrt -r 5`.
 
 `--short` takes less than a minute: it ends with 1 where one client at a site waits for more than 15 ms longer than the
@@ -32,7 +34,7 @@ import time
 from typing import Callable, Dict, List, NamedTuple, Optional, Sequence, Tuple
 
 from cluster import Load, Window, generate, part_of
-from sites import MAPS, AtSites, Map, NoNetwork, Wan, crsm_at, enter, etcd_at, has_etcd
+from sites import MAPS, AtSites, Map, NoNetwork, Wan, Weather, crsm_at, enter, etcd_at, has_etcd
 
 OWN_COMMANDS = 64
 CLIENTS_IN_ALL = (255, 1023)
@@ -353,8 +355,8 @@ Start = Callable[[Wan, str], AtSites]
 class Trial:
     """A network with a store on it, which stops with it."""
 
-    def __init__(self, where: Map, start: Start, jitter: float = 0.0, loss: float = 0.0):
-        self.wan, self.start = Wan(where, jitter, loss), start
+    def __init__(self, where: Map, start: Start, weather: Weather = Weather()):
+        self.wan, self.start = Wan(where, weather), start
         self.folder, self.store = "", None
 
     def __enter__(self) -> AtSites:
@@ -407,6 +409,7 @@ def starts_of(words, where: Map) -> Dict[str, Start]:
 def run_all(words) -> int:
     """All rounds, and then the tables."""
     found: Dict[str, Dict[str, Found]] = {name: {} for name in words.maps}
+    weather = Weather(words.jitter, words.scatter, words.loss)
     for name in words.maps:
         print_map(name)
     for number in range(words.rounds):
@@ -414,7 +417,7 @@ def run_all(words) -> int:
             for label, start in starts_of(words, MAPS[name]).items():
                 of_store = found[name].setdefault(label, Found())
                 try:
-                    with Trial(MAPS[name], start, words.jitter, words.loss) as store:
+                    with Trial(MAPS[name], start, weather) as store:
                         measure_all(store, f"{name}, {label}, round {number + 1}", words, of_store)
                 except OSError as why:
                     print(f"{name}, {label}, round {number + 1}: came to nothing: {why}", flush=True)
@@ -464,6 +467,7 @@ def main() -> int:
     reader.add_argument("--rounds", type=int, default=3)
     reader.add_argument("--seconds", type=float, default=5.0)
     reader.add_argument("--jitter", type=float, default=0.0, help="ms, of each packet at most")
+    reader.add_argument("--scatter", type=float, default=0.0, help="the same, and packets may overtake others")
     reader.add_argument("--loss", type=float, default=0.0, help="of a hundred packets")
     reader.add_argument("--cuts", action="store_true")
     reader.add_argument("--patience", type=float, default=20.0)
