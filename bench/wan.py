@@ -15,7 +15,8 @@ processors the host of this machine took away, and how late the router handed pa
 rounds, and all rounds. A node has 64 commands of its own under way at most, so 64 in the time of one client's command
 is the most that a site can have: a share of that stands beside. `--cuts` cuts each site off for 2 and for 9 seconds.
 `--jitter` has each packet take up to so much longer, in order on its way, and `--scatter` lets packets overtake others.
-`--patience` waits so long at most until the host takes nothing away. Where other work runs beside, run it by `chrt -r 5`.
+`--patience` waits so long at most until the host takes nothing away. All runs before other work of the machine, by a
+real-time policy, where that is allowed.
 
 `--short` takes less than a minute: it ends with 1 where one client at a site waits for more than 15 ms longer than the
 ways take, or where a site that was cut off, or the others without it, do not answer within 8 s. Where this machine lets
@@ -46,7 +47,11 @@ IDLE = 4.0
 SHORT_CUT, LONG_CUT, AFTER_CUT = 2.0, 9.0, 9.0
 STEADY = 1.0
 CALM = 0.04
+# Where the host took more away, a load says little of a store.
+MOST_STOLEN = 0.1
 SHORT_LATER, SHORT_WITHIN = 0.015, 8.0
+# Below that of the router.
+PRIORITY = 5
 
 
 # ---- clients at the sites
@@ -432,6 +437,8 @@ def run_short(program: str) -> int:
     try:
         with Trial(where, lambda wan, folder: crsm_at(wan, program, folder)) as store:
             figure = measure(store, 1, 6.0)
+            if figure.stolen > MOST_STOLEN:
+                figure = measure(store, 1, 6.0)
             print_figure(where, "three sites, 1 client at each", figure)
             for at, it in enumerate(figure.sites):
                 if not it.middle <= where.least(at) / 1000 + SHORT_LATER:
@@ -444,6 +451,15 @@ def run_short(program: str) -> int:
         lacks.append(str(why))
     print("wan: ok" if not lacks else f"wan: LACKS {'; '.join(lacks)}")
     return 1 if lacks else 0
+
+
+def run_before_others() -> None:
+    """Has all that is started from now on run before other work of this machine, both stores alike: where processors are
+    shared, a node and a client that wake up late take longer than the ways."""
+    try:
+        os.sched_setscheduler(0, os.SCHED_RR, os.sched_param(PRIORITY))
+    except PermissionError:
+        pass
 
 
 def numbers(text: str) -> List[int]:
@@ -477,6 +493,7 @@ def main() -> int:
     if words.etcd and not words.short and not has_etcd():
         print("etcd or etcdctl is not installed, and is left out", file=sys.stderr)
         words.etcd = []
+    run_before_others()
     try:
         return run_short(words.programs[0]) if words.short else run_all(words)
     except NoNetwork as why:
