@@ -5,9 +5,11 @@
 runs a node that is a cluster of its own under `strace`, which lets the k-th write, sync, send or receive fail, for each
 k up to M, while a client asks it for commands; of the writes of zeros ahead only the first and the last. The node ends
 with the status that this fault has, or counts a loss and goes on; started again without faults on the same log, it has
-each command that was answered. It also looks at the order of calls of a run without faults: before anything is sent, a
-new log and the folder that has its name were synced, and before a reply goes out, a write, a sync, a write and a sync
-have kept the command.
+each command that was answered. The same with a crowd: 60 clients ask at once, so that a group has more than 32 turns,
+and each write and sync of the log fails in its turn.
+
+It also looks at the order of calls of a run without faults: before anything is sent, a new log and the folder that has
+its name were synced, and before a reply goes out, a write, a sync, a write and a sync have kept the command.
 
 Ends with 0 where all holds, with 1 and the reason where it does not, and with 0 and a word where there is no `strace`.
 Where there is a `cc`, reads and writes are cut to half of their bytes, too, one in each run: the node goes on as if
@@ -18,13 +20,19 @@ import argparse
 import os
 import re
 import shutil
+import socket
+import struct
 import subprocess
 import sys
 import tempfile
 from typing import Callable, Dict, List, Optional, Tuple
 
-from nodes import free_addresses, text_of
-from shim import Shim, built, has_come
+HERE = os.path.dirname(os.path.abspath(__file__))
+sys.path[:0] = [f"{HERE}/../clients/python"]
+
+from crsm import protocol  # noqa: E402
+from nodes import free_addresses, text_of  # noqa: E402
+from shim import Shim, built, has_come  # noqa: E402
 
 TURNS = 250
 # What one call writes of the zeros ahead of a log. Of these calls the first and the last are tried.
@@ -46,6 +54,11 @@ FAULTS = [
     ("recvfrom", "EIO", {0, 6}),
 ]
 
+# The same of a node that a crowd asks, and how many turns a group of such a run has at least.
+FAULTS_OF_A_CROWD = [("pwrite64", "EIO", {0, 7}), ("pwrite64", "ENOSPC+", {0, 7}), ("fdatasync", "EIO", {0, 7})]
+CROWD = 60
+GROUP = 33
+
 # The calls that are cut short.
 CUTS = ["pwrite", "pread", "write"]
 
@@ -66,6 +79,62 @@ def ask(program: str, address: str, number: int, op: List[str]) -> str:
     """What a client is told."""
     words = [program, "client", address, "150", "7", str(number), *op]
     return subprocess.run(words, capture_output=True, text=True, check=False).stdout.strip()
+
+
+def ask_crowd(address: str, is_over: Callable[[], bool]) -> List[int]:
+    """Sends the commands of a crowd at once, again each half second; answers the clients that were answered."""
+    host, port = address.split(":")
+    left, answered = set(range(1, CROWD + 1)), []
+    with socket.socket(socket.AF_INET, socket.SOCK_DGRAM) as asker:
+        asker.settimeout(0.5)
+        while left and not is_over():
+            for client in sorted(left):
+                datagram = struct.pack(">BQQ", 4, client, 1) + protocol.put_of(b"%d" % client, b"x" * 400).data
+                asker.sendto(datagram, (host, int(port)))
+            try:
+                while left:
+                    reply = protocol.reply_of(asker.recv(65_536))
+                    if reply is not None and reply[0] in left and not isinstance(reply[2], int):
+                        left.remove(reply[0])
+                        answered.append(reply[0])
+            except OSError:
+                pass
+    return answered
+
+
+def run_crowd(folder: str, words: List[str], address: str) -> Tuple[int, List[int]]:
+    """Runs a node and asks it for the commands of a crowd; answers its status and the clients that were answered."""
+    quiet = subprocess.DEVNULL
+    with open(f"{folder}/sheet", "wb") as sheet:
+        node = subprocess.Popen(words, cwd=folder, stdin=quiet, stdout=sheet, stderr=quiet)
+    answered = ask_crowd(address, lambda: node.poll() is not None)
+    return node.wait(60), answered
+
+
+def greatest_group(folder: str) -> int:
+    """How many turns the greatest group of a sheet has: a group ends with a turn that took no datagram."""
+    greatest = turns = 0
+    with open(f"{folder}/sheet", encoding="ascii") as sheet:
+        for line in sheet:
+            turns = turns + 1 if line.startswith(("in ", "tick ")) else 0
+            greatest = max(greatest, turns)
+            turns = turns if line.startswith("in ") else 0
+    return greatest
+
+
+def check_crowd(program: str) -> None:
+    """A crowd is answered by a node without faults, which has a group of many turns."""
+    folder = tempfile.mkdtemp(prefix="crsm-faults-")
+    try:
+        address = text_of(free_addresses(1)[0])
+        words = ["strace", "-f", "-qq", "-o", "/dev/null", "-e", "trace=fdatasync", *node_words(program, address, TURNS)]
+        status, answered = run_crowd(folder, words, address)
+        group = greatest_group(folder)
+        if status != 0 or len(answered) != CROWD or group < GROUP:
+            raise Broken(f"a crowd: the node ends with {status}, answers {len(answered)}, in groups of up to {group}")
+        check_kept(program, folder, answered, "a crowd")
+    finally:
+        shutil.rmtree(folder)
 
 
 def run_node(
@@ -105,7 +174,7 @@ def check_sheet(program: str, folder: str, what: str) -> None:
         raise Broken(f"{what}: its sheet does not replay: {again.stderr.decode()}")
 
 
-def one_fault(program: str, call: str, error: str, at: int, statuses: set) -> bool:
+def one_fault(program: str, call: str, error: str, at: int, statuses: set, is_crowd: bool = False) -> bool:
     """Lets one call fail; answers whether the run had so many calls."""
     folder = tempfile.mkdtemp(prefix="crsm-faults-")
     try:
@@ -116,7 +185,10 @@ def one_fault(program: str, call: str, error: str, at: int, statuses: set) -> bo
         words += ["-P", folder] if call == "fsync" else []
         name, later = error.rstrip("+"), "+" if error.endswith("+") else ""
         words += ["-e", f"inject={call}:error={name}:when={at}{later}", *node_words(program, address, TURNS)]
-        status, answered = run_node(folder, words, program, address)
+        if is_crowd:
+            status, answered = run_crowd(folder, words, address)
+        else:
+            status, answered = run_node(folder, words, program, address)
         if status not in statuses:
             raise Broken(f"{call} {at} fails with {error}: the node ends with {status}")
         check_kept(program, folder, answered, f"{call} {at} fails with {error}")
@@ -231,6 +303,14 @@ def main() -> int:
                 words.most,
             )
             tried.append(f"{call} {error} {count}")
+        check_crowd(words.program)
+        for call, error, statuses in FAULTS_OF_A_CROWD:
+            count = count_of(
+                lambda at, it=(call, error), statuses=statuses: one_fault(words.program, *it, at, statuses, True),
+                writes if call == "pwrite64" else None,
+                words.most,
+            )
+            tried.append(f"{call} {error} in a crowd {count}")
         tried += cut_all(words.program, words.most, writes)
     except Broken as broken:
         print(f"faults: {broken}", file=sys.stderr)

@@ -30,12 +30,13 @@ PAUSE = 0.002
 class Load(threading.Thread):
     """Clients that each have one command under way, all over one socket, and note what they are told."""
 
-    def __init__(self, addresses: List[Address], seed: int):
+    def __init__(self, addresses: List[Address], seed: int, clients: int = CLIENTS):
         super().__init__(daemon=True)
         self.notes: List[Asked] = []
         self.answered = 0
         self.is_over = False
         self._addresses = addresses
+        self._clients = clients
         self._chance = random.Random(seed)
         self._socket = socket.socket(socket.AF_INET, socket.SOCK_DGRAM)
         self._socket.setblocking(False)
@@ -92,7 +93,7 @@ class Load(threading.Thread):
 
     def run(self) -> None:
         """Asks until it is told to end."""
-        numbers = {client: 0 for client in range(1000, 1000 + CLIENTS)}
+        numbers = {client: 0 for client in range(1000, 1000 + self._clients)}
         while not self.is_over:
             self._take_all()
             for client in numbers.keys() - self._under_way.keys():

@@ -13,6 +13,7 @@
  *   POWER_LIES   where it is set, no sync keeps anything
  *   POWER_FAILS  from the k-th sync on, the first that is to keep the gate of an entry which ends in a later page fails
  *                with EIO and keeps nothing, and the system takes the gate's page as written; 0 for none
+ *   POWER_SLOW   how many microseconds each sync takes; 0 for none
  *   POWER_MARK   a file that gets a line for each loss
  *
  * At SIGUSR1 the power is lost at one of the next 64 such calls; at a second one, at the next call of any kind.
@@ -52,7 +53,7 @@ static size_t image_len, image_room;
 static size_t entry_end;
 static int log_fd = -1, folder_fd = -1, is_name_new;
 static char log_path[4096], image_path[4096 + 8];
-static long calls, syncs, loss_at, failure_at;
+static long calls, syncs, loss_at, failure_at, sync_time;
 static int is_lying, has_sent;
 static volatile sig_atomic_t signals;
 static uint64_t state;
@@ -84,6 +85,7 @@ __attribute__((constructor)) static void begin(void) {
     loss_at = number_of("POWER_AT");
     failure_at = number_of("POWER_FAILS");
     is_lying = getenv("POWER_LIES") != NULL;
+    sync_time = number_of("POWER_SLOW");
     signal(SIGUSR1, on_signal);
 }
 
@@ -289,6 +291,8 @@ static int sync_it(int fd, const char *call, int (*next)(int)) {
     if (fd != log_fd && fd != folder_fd)
         return next(fd);
     count(call);
+    if (sync_time > 0)
+        usleep(sync_time);
     if (++syncs >= failure_at && failure_at > 0 && fd == log_fd && is_gate_alone()) {
         failure_at = 0;
         drop_pages();

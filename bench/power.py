@@ -1,9 +1,9 @@
 """Power that is lost: a loaded node, or three, whose disk keeps what was synced and anything of the rest.
 
-    python3 bench/power.py PROGRAM [--nodes N] [--cuts K] [--seed S] [--fails] [--lies]
+    python3 bench/power.py PROGRAM [--nodes N] [--cuts K] [--seed S] [--fails] [--lies] [--clients C] [--slow MS]
 
 puts a library (`power.c`) in front of the system's calls of each node. The power is lost at a call or a moment that is
-drawn from the seed, while clients keep 32 commands under way: then any part of what was not synced reaches the log
+drawn from the seed, while C clients, 32 of them if nothing is said, keep a command each under way: then any part of what was not synced reaches the log
 file, by sectors of 512 bytes, with any length between the old and the new, and a name whose folder was not synced may
 be gone. One in four losses comes while a node starts. With three nodes one, two or all of them lose the power at once.
 
@@ -13,6 +13,9 @@ and answers are those of `chaos.py`, and the audit of all sheets agrees.
 
 With `--fails` a sync of a gate fails before some losses, and the system takes the page that it should have written as
 written: the node ends with status 7 and is started again, reads what the disk does not have, and then loses the power.
+
+With `--slow` each sync takes so many milliseconds, so that many turns wait and are flushed as one group. The end says
+how many turns the greatest group had; a slow trial whose groups have 32 at most has not tried what it is for, and fails.
 
 With `--lies` no sync keeps anything: the trial is then expected to find a loss, and ends with 0 where it does.
 
@@ -33,7 +36,8 @@ from collections import Counter
 from dataclasses import dataclass, field
 from typing import List
 
-from load import Broken, Load, judge_all
+from chaos import whole_lines
+from load import CLIENTS, Broken, Load, judge_all
 from nodes import Node, free_addresses, text_of
 
 HERE = os.path.dirname(os.path.abspath(__file__))
@@ -47,6 +51,8 @@ CALLS_OF_A_START = 12
 MOST_ANSWERS = 60
 MOST_SYNCS = 40
 LOG_FAILED = 7
+# The most turns of a group.
+MOST_TURNS = 256
 # How a process ends that loses its power, and one that was told so before the library was there.
 LOST = (-signal.SIGKILL, -signal.SIGUSR1)
 
@@ -70,7 +76,7 @@ class Life:
         self.addresses = free_addresses(words.nodes)
         peers = ",".join(text_of(it) for it in self.addresses)
         self.nodes = [Node(words.program, f"{folder}/{at}", at, words.nodes, peers) for at in range(words.nodes)]
-        self.load = Load(self.addresses, seed + 1)
+        self.load = Load(self.addresses, seed + 1, words.clients)
         self.losses: Counter = Counter()
         self._library = library
         self._operator = socket.socket(socket.AF_INET, socket.SOCK_DGRAM)
@@ -83,6 +89,7 @@ class Life:
             "POWER_SEED": str(self.chance.randrange(1 << 30)),
             "POWER_AT": str(loss_at),
             "POWER_FAILS": str(failure_at),
+            "POWER_SLOW": str(1000 * self.words.slow),
             "POWER_MARK": f"{self.folder}/mark-{node.number}",
         }
         if self.words.lies:
@@ -213,6 +220,7 @@ class Total:
     in_flight: int = 0
     torn: int = 0
     names: int = 0
+    group: int = 0
 
 
 def add_marks(folder: str, total: Total) -> None:
@@ -225,6 +233,18 @@ def add_marks(folder: str, total: Total) -> None:
                     total.in_flight += int(all_) > 0
                     total.torn += 0 < int(kept) < int(all_)
                     total.names += int(is_name_lost)
+
+
+def greatest_group(node: Node) -> int:
+    """How many turns the greatest group of a node had, by its sheets: a group ends with a turn that took no datagram."""
+    greatest = 0
+    for boot in range(node.boots):
+        turns = 0
+        for line in whole_lines(node.sheet(boot)).split(b"\n"):
+            turns += line.startswith((b"in ", b"tick ", b"suspect "))
+            if not line.startswith(b"in "):
+                greatest, turns = max(greatest, turns), 0
+    return min(greatest, MOST_TURNS)
 
 
 def lives(words: argparse.Namespace, library: str, folder: str, total: Total) -> None:
@@ -241,6 +261,7 @@ def lives(words: argparse.Namespace, library: str, folder: str, total: Total) ->
             total.losses += life.losses
             total.answered += life.load.answered
         add_marks(home, total)
+        total.group = max([total.group, *map(greatest_group, life.nodes)])
         shutil.rmtree(home)
 
 
@@ -253,6 +274,8 @@ def read_words() -> argparse.Namespace:
     reader.add_argument("--seed", type=int, default=1)
     reader.add_argument("--fails", action="store_true")
     reader.add_argument("--lies", action="store_true")
+    reader.add_argument("--clients", type=int, default=CLIENTS)
+    reader.add_argument("--slow", type=int, default=0)
     return reader.parse_args()
 
 
@@ -267,6 +290,8 @@ def main() -> int:
     total, broken = Total(), None
     try:
         lives(words, built(folder), folder, total)
+        if words.slow and total.group <= CLIENTS:
+            raise Broken(f"no group had more than {total.group} turns")
     except Broken as error:
         broken = error
     count = sum(total.losses.values())
@@ -282,7 +307,7 @@ def main() -> int:
     print(f"power: ok, seed {words.seed}, nodes {words.nodes}, {total.lives} lives: {count} losses of power ({losses})")
     print(
         f"power: {total.in_flight} disks had a write that was not synced, {total.torn} of them got a part of it; "
-        f"{total.names} names gone; {total.answered} commands answered, none lost"
+        f"{total.names} names gone; {total.answered} commands answered, none lost; groups of up to {total.group} turns"
     )
     return 0
 
