@@ -1,6 +1,7 @@
 //! The journal of a node: which lines its turns make.
 
 use crate::clocks::Clocks;
+use crate::flushes::Flushes;
 use crate::line::Line;
 use crate::refusals::Refusals;
 use crate::replicas::Replicas;
@@ -14,6 +15,9 @@ use std::alloc::Global;
 
 /// The time between two lines about the state, in microseconds.
 const MINUTE: u64 = 60_000_000;
+
+/// A flush of this time in microseconds and above is told at once.
+const LONG: u64 = 1_000_000;
 
 /// What the turns before the first one were not there for.
 #[derive(Clone, Copy)]
@@ -49,6 +53,8 @@ pub struct Journal {
     /// The executed commands before the first ones that came from others while this node took no part.
     behind: Option<u64>,
     room: Room,
+    /// The flushes since the last line about the state was due.
+    flushes: Flushes,
     /// The executed commands at the last line about the state.
     told: u64,
 }
@@ -73,6 +79,7 @@ impl Journal {
             executed,
             behind: None,
             room: Room::of(bytes),
+            flushes: Flushes::new(alloc),
             told: executed,
         }
     }
@@ -109,8 +116,15 @@ impl Journal {
         self.since = Some(since);
     }
 
-    /// Notes that all turns so far are in the log.
-    pub fn kept(&mut self) {
+    /// Notes that all turns so far are in the log, and how long it took to write and send them, in microseconds: two
+    /// syncs above all. Of turns without records nothing is written, and their time does not count.
+    pub fn kept(&mut self, time: u64) {
+        if self.room.has_pending() {
+            let _ = self.flushes.add(time);
+            if time >= LONG {
+                self.say(Some(Line::SlowFlush { time }));
+            }
+        }
         let line = self.room.kept();
         self.say(line);
     }
@@ -210,8 +224,10 @@ impl Journal {
         }
     }
 
-    /// Says what there is, if something was executed since the last time.
+    /// Says what there is, and how long the flushes of the last minute took, if something was executed since the last
+    /// time.
     fn note_state(&mut self, state: &Ledger) {
+        let flushes = self.flushes.take();
         if self.executed == self.told {
             return;
         }
@@ -223,6 +239,7 @@ impl Journal {
             members,
             executed: self.executed,
             bytes: self.room.bytes,
+            flushes,
         }));
     }
 }

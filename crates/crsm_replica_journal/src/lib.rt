@@ -2,6 +2,7 @@
 #![tactic(auto)]
 
 mod clocks;
+mod flushes;
 mod journal;
 mod line;
 mod refusals;
@@ -9,6 +10,7 @@ mod replicas;
 mod room;
 mod silence;
 
+pub use flushes::FlushTimes;
 pub use journal::Journal;
 pub use line::{Level, Line};
 pub use replicas::Replicas;

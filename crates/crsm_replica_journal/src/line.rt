@@ -1,5 +1,6 @@
 //! The lines that a node says.
 
+use crate::flushes::FlushTimes;
 use crate::replicas::Replicas;
 use crsm_base::Refusal;
 use std::fmt::{self, Display, Formatter, Write};
@@ -57,6 +58,10 @@ pub enum Line {
         percent: u64,
         bytes: u64,
     },
+    /// A flush of the log took this time.
+    SlowFlush {
+        time: u64,
+    },
     /// Requests were refused, the last one for this reason.
     Refused {
         count: u64,
@@ -82,6 +87,8 @@ pub enum Line {
         members: Replicas,
         executed: u64,
         bytes: u64,
+        /// How long the flushes of that minute took, if one was slow.
+        flushes: Option<FlushTimes>,
     },
 }
 
@@ -118,6 +125,29 @@ impl Display for Seconds {
         let tenths = self.0 / 100_000;
         write!(f, "{}.{} s", tenths / 10, tenths % 10)
     }
+}
+
+/// A time in milliseconds, with tenths.
+#[derive(Clone, Copy)]
+struct Millis(u64);
+
+impl Display for Millis {
+    fn fmt<W: Write>(&self, f: &mut Formatter<W>) -> fmt::Result {
+        let tenths = self.0 / 100;
+        write!(f, "{}.{} ms", tenths / 10, tenths % 10)
+    }
+}
+
+/// Writes how long flushes took, behind what else there is; nothing where none was slow.
+fn write_flushes<W: Write>(f: &mut Formatter<W>, flushes: Option<FlushTimes>) -> fmt::Result {
+    let Some(FlushTimes { median, slowest }) = flushes else {
+        return Ok(());
+    };
+    f.write_str("; flushes: ")?;
+    if let Some(median) = median {
+        write!(f, "median {}, ", Millis(median))?;
+    }
+    write!(f, "slowest {}", Millis(slowest))
 }
 
 /// Returns the reason of a refusal, in words.
@@ -178,6 +208,7 @@ impl Display for Line {
                 f,
                 "the log has {bytes} bytes, over {percent} % of what it can have"
             ),
+            Line::SlowFlush { time } => write!(f, "a flush of the log took {}", Seconds(time)),
             Line::Refused { count, time, last } => write!(
                 f,
                 "refused {count} {} in {}, the last with {}",
@@ -202,12 +233,14 @@ impl Display for Line {
                 members,
                 executed,
                 bytes,
+                flushes,
             } => {
                 let standing = if is_live { "takes part" } else { "waits" };
                 write!(
                     f,
                     "{standing}; epoch {epoch}, members {members}, {executed} executed, log {bytes} bytes"
-                )
+                )?;
+                write_flushes(f, flushes)
             }
         }
     }

@@ -31,6 +31,11 @@ impl Room {
         self.pending = self.pending.saturating_add(size);
     }
 
+    /// Returns whether records of turns are not written yet.
+    pub(crate) fn has_pending(&self) -> bool {
+        self.pending > 0
+    }
+
     /// Notes that the records were written as one body, behind five bytes. Returns a line if a mark was passed.
     pub(crate) fn kept(&mut self) -> Option<Line> {
         if self.pending > 0 {

@@ -24,7 +24,7 @@ use std::fmt::{self, Display, Formatter, Write};
 use std::fs::{File, Files};
 use std::io::{Eprint, Input, Print};
 use std::net::Net;
-use std::time::Clock;
+use std::time::{Clock, Instant};
 
 /// The identity of a replica, and the address at which it listens, IPv4 x 65,536 + port.
 #[derive(Clone, Copy, Debug)]
@@ -106,9 +106,24 @@ struct StderrReporter<'a, R> {
     place: NodeIdentity,
     /// None before the boot.
     journal: Option<Journal>,
+    /// When the last turn was noted. None before the first, and where the clock cannot be read.
+    turned: Option<Instant>,
 }
 
-impl<R: Eprint> StderrReporter<'_, R> {
+impl<R: Clock + Eprint> StderrReporter<'_, R> {
+    /// Returns how long ago the last turn was noted, in microseconds, 0 where the clock cannot be read. A group is
+    /// flushed right behind its last turn, so at its end that is how long the flush took. The clock is one that no one
+    /// sets.
+    fn since_turn(&self) -> u64 {
+        let Some(turned) = self.turned else {
+            return 0;
+        };
+        match turned.elapsed(self.rt) {
+            Ok(time) => u64::try_from(time.as_micros()).unwrap_or(u64::MAX),
+            Err(_) => 0,
+        }
+    }
+
     /// Writes the lines that the journal has made.
     fn write(&mut self) {
         let Some(journal) = &mut self.journal else {
@@ -125,7 +140,7 @@ impl<R: Eprint> StderrReporter<'_, R> {
     }
 }
 
-impl<R: AllocGlobal + Eprint> Reporter for StderrReporter<'_, R> {
+impl<R: AllocGlobal + Clock + Eprint> Reporter for StderrReporter<'_, R> {
     fn booted(&mut self, held: BootReport) {
         let place = self.place;
         let _ = self.rt.eprintln(StartLine { place, held });
@@ -143,11 +158,13 @@ impl<R: AllocGlobal + Eprint> Reporter for StderrReporter<'_, R> {
             journal.turned(turn, datagram, state);
         }
         self.write();
+        self.turned = Instant::now(self.rt).ok();
     }
 
     fn kept(&mut self) {
+        let time = self.since_turn();
         if let Some(journal) = &mut self.journal {
-            journal.kept();
+            journal.kept(time);
         }
         self.write();
     }
@@ -251,6 +268,7 @@ fn run_at<R: AllocGlobal + Clock + Eprint + Files<File = File> + Input + Net + P
         rt,
         place,
         journal: None,
+        turned: None,
     };
     let status = status_over(rt, words, &mut port, &mut disk, &mut reporter);
     drop(port);

@@ -1,10 +1,12 @@
-//! The table `journal`: what nodes over devices in memory say of themselves. The lines are those of the table `node`.
+//! The table `journal`: what nodes over devices in memory say of themselves. The lines are those of the table `node`,
+//! each behind how long the flushes take in microseconds, `-` for no time, of which the last one comes again.
 //!
 //! For each line stand the lines of the node's journal, each behind its level, and then `== end`.
 
 use crate::script::Script;
-use crate::words::{parted, small_of};
+use crate::words::{numbers_of, parted, small_of};
 use crsm_base::Bytes;
+use crsm_clock::{Clock, ListClock};
 use crsm_ledger::Ledger;
 use crsm_node::{BootReport, Reporter};
 use crsm_replica_journal::Journal;
@@ -18,6 +20,8 @@ struct Kept {
     alloc: Global,
     me: u32,
     journal: Option<Journal>,
+    /// How long the flushes take.
+    times: ListClock,
 }
 
 impl Reporter for Kept {
@@ -38,8 +42,9 @@ impl Reporter for Kept {
     }
 
     fn kept(&mut self) {
+        let time = self.times.now();
         if let Some(journal) = &mut self.journal {
-            journal.kept();
+            journal.kept(time);
         }
     }
 }
@@ -60,12 +65,19 @@ fn push_kept(alloc: Global, kept: &Kept, out: &mut Bytes) -> Result<(), Fault> {
     }
 }
 
-/// Runs the node of this number, and appends what it says.
-fn run(alloc: Global, me: u32, script: &mut Script, out: &mut Bytes) -> Result<(), Fault> {
+/// Runs the node of this number, whose flushes take these times, and appends what it says.
+fn run(
+    alloc: Global,
+    me: u32,
+    times: ListClock,
+    script: &mut Script,
+    out: &mut Bytes,
+) -> Result<(), Fault> {
     let mut kept = Kept {
         alloc,
         me,
         journal: None,
+        times,
     };
     let _end = script.run(alloc, &mut kept);
     let pushed = push_kept(alloc, &kept, out);
@@ -75,10 +87,12 @@ fn run(alloc: Global, me: u32, script: &mut Script, out: &mut Bytes) -> Result<(
 
 /// Appends what the node of a line says.
 fn push_line(alloc: Global, line: &str, out: &mut Bytes) -> Result<(), Fault> {
+    let (times, line) = parted(line)?;
     let (me, _) = parted(line)?;
     let me = small_of(me)?;
+    let times = ListClock::new(alloc, &numbers_of(alloc, times)?)?;
     let mut script = Script::read(alloc, line, &[])?;
-    run(alloc, me, &mut script, out)
+    run(alloc, me, times, &mut script, out)
 }
 
 /// Appends what the nodes of all lines of the table say.
