@@ -222,9 +222,13 @@ pub ok_map : {E : Type 0} (r : Result (Unit {0}) E) (P Q : Type 0) → (P → Q)
 ok_map (Ok u) P Q f p = f p
 ok_map (Err e) P Q f p = tt
 
-pub ok_both : {E : Type 0} (r : Result (Unit {0}) E) (P Q R : Type 0) → (P → Q → R) → OnOk r P → OnOk r Q → OnOk r R
-ok_both (Ok u) P Q R f p q = f p q
-ok_both (Err e) P Q R f p q = tt
+pub ok_later : {E : Type 0} (r : Result (Unit {0}) E) (A P : Type 0) → (A → OnOk r P) → OnOk r (A → P)
+ok_later (Ok u) A P f = f
+ok_later (Err e) A P f = tt
+
+pub ok_three : {E : Type 0} (r : Result (Unit {0}) E) (P Q R S : Type 0) → (P → Q → R → S) → OnOk r P → OnOk r Q → OnOk r R → OnOk r S
+ok_three (Ok u) P Q R S f p q r = f p q r
+ok_three (Err e) P Q R S f p q r = tt
 
 pub err_map : {E : Type 0} (r : Result (Unit {0}) E) (P Q : Type 0) → (P → Q) → OnErr r P → OnErr r Q
 err_map (Ok u) P Q f p = tt

@@ -13,6 +13,14 @@ IsAfterExpected epoch number link = (link.epoch ≡ epoch) × (link.next < numbe
 abbrev pub IsEarlyIn : ℕ → ℕ → ℕ → List Link → Type 0
 IsEarlyIn from epoch number links = (link : Link) × (slice_get links from ≡ Some link) × IsAfterExpected epoch number link
 
+-- a frame of this epoch and number comes before the one that the link expects
+abbrev pub IsBeforeExpected : ℕ → ℕ → Link → Type 0
+IsBeforeExpected epoch number link = (link.epoch ≡ epoch) × (number < link.next)
+
+-- a later frame of its link is expected
+abbrev pub IsPastIn : ℕ → ℕ → ℕ → List Link → Type 0
+IsPastIn from epoch number links = (link : Link) × (slice_get links from ≡ Some link) × IsBeforeExpected epoch number link
+
 -- the place of a frame, by its sender and number: each of 15 senders has 1,024
 abbrev pub place_of : ℕ → ℕ → ℕ
 place_of from number = from % 15 * 1_024 + number % 1_024

@@ -1,5 +1,6 @@
 -- Frames that waited for another one and become ready behind it.
 use Rattle.std.specs.Prelude.{◌≡◌, ◌⊎◌, ◌++◌, ◌<◌, ◌≤◌, ℕ, List, ◌∷◌, Contains, Some, slice_get}
+use Rattle.crsm_port_flow.specs.Again.{Acknowledges}
 use Rattle.crsm_port_flow.specs.Early.{AreFrames, Expects, Waits, after, least_kept}
 use Rattle.crsm_port_flow.specs.Heads.{HasHead}
 use Rattle.crsm_port_flow.specs.Kept.{Is}
@@ -40,10 +41,14 @@ abbrev pub IsExpectedOf : (sender epoch next : ℕ) → FromPeers → FromPeers 
 IsExpectedOf sender epoch next old new =
     (link : Link) → slice_get old.early.links.items sender ≡ Some link → (last : ℕ) × (next ≤ last) × Expects sender epoch last new.early.links.items × (Waits sender last new.early.frames.items → ⊥)
 
--- what is sent is an acknowledgement, of which frames are past; or nothing changes of what is kept of peers
+-- it is noted that the replica acknowledges the frames of a sender before this number
+abbrev pub IsNotedOf : (sender epoch next : ℕ) → FromPeers → FromPeers → Type 0
+IsNotedOf sender epoch next old new = Acknowledges sender epoch next old.again.said.items new.again.said.items × (new.again.went_at ≡ old.again.went_at)
+
+-- what is sent is an acknowledgement, of which frames are past, and is noted as such; or nothing changes of what is kept of peers
 abbrev pub GoesBy : List ℕ → FromPeers → FromPeers → Type 0
 GoesBy bytes old new =
-    ((from to epoch number : ℕ) × HasHead 2 from to epoch number bytes × LosesPast to epoch number old new × IsExpectedOf to epoch number old new)
+    ((from to epoch number : ℕ) × HasHead 2 from to epoch number bytes × LosesPast to epoch number old new × IsExpectedOf to epoch number old new × IsNotedOf to epoch number old new)
     ⊎ (((from to epoch number : ℕ) → HasHead 2 from to epoch number bytes → ⊥) × (new ≡ old))
 
 -- each frame that waited waits still, or is ready

@@ -1,4 +1,5 @@
 pub mod Acks
+pub mod Again
 pub mod Early
 pub mod Followed
 pub mod Heads
@@ -14,6 +15,7 @@ pub mod Reads
 pub mod Rooms
 pub mod Same
 pub mod Taken
+pub mod Ticks
 pub mod Traffic
 pub mod Turns
 pub mod Waits

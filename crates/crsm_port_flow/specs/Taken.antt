@@ -1,6 +1,7 @@
 -- What becomes of a datagram that came up.
 use Rattle.std.specs.Prelude.{◌≡◌, ◌⊎◌, ◌++◌, ◌≤◌, ℕ, List, [], ◌∷◌, Some, false, Contains}
-use Rattle.crsm_port_flow.specs.Early.{IsEarlyIn, Waits, WaitsAs}
+use Rattle.crsm_port_flow.specs.Again.{IsAgain, NotesWent}
+use Rattle.crsm_port_flow.specs.Early.{IsEarlyIn, IsPastIn, Waits, WaitsAs}
 use Rattle.crsm_port_flow.specs.Heads.{HasHead, IsOperate, IsRequest}
 use Rattle.crsm_port_flow.specs.Followed.{IsFollowed, NoneLost}
 use Rattle.crsm_port_flow.specs.Kept.{Is}
@@ -33,13 +34,33 @@ IsHeld from bytes old new =
 abbrev pub IsHeldAlready : List ℕ → FromPeers → Type 0
 IsHeldAlready bytes old = (sender to epoch number : ℕ) × HasHead 1 sender to epoch number bytes × Waits sender number old.early.frames.items
 
--- what needs no order, and the next frame in order, is ready; a frame before which another is missing waits
-abbrev pub IsTaken : ℕ → List ℕ → FromPeers → FromPeers → Type 0
-IsTaken from bytes old new = IsMadeReady from bytes old.ready.items new.ready.items ⊎ (IsHeld from bytes old new ⊎ (IsHeldAlready bytes old × (new ≡ old)))
+-- it is a frame that the replica has acknowledged, and another such frame of its sender went up less than 40 milliseconds ago
+abbrev pub StaysBack : List ℕ → ℕ → FromPeers → Type 0
+StaysBack bytes now old = (sender to epoch number : ℕ) × HasHead 1 sender to epoch number bytes × IsAgain sender epoch number now old.again
+
+-- a frame that is past is ready, or stays back
+abbrev pub GoesAgain : ℕ → List ℕ → ℕ → FromPeers → FromPeers → Type 0
+GoesAgain from bytes now old new = IsMadeReady from bytes old.ready.items new.ready.items ⊎ (StaysBack bytes now old × (new ≡ old))
+
+-- what needs no order, and the next frame in order, is ready; a frame before which another is missing waits; one that comes again may stay back
+abbrev pub IsTaken : ℕ → List ℕ → ℕ → FromPeers → FromPeers → Type 0
+IsTaken from bytes now old new =
+    IsMadeReady from bytes old.ready.items new.ready.items ⊎ (IsHeld from bytes old new ⊎ ((IsHeldAlready bytes old ⊎ StaysBack bytes now old) × (new ≡ old)))
+
+-- a frame that was acknowledged is noted where it is ready, and nothing else changes of what is known of such frames
+abbrev pub NotesAgain : ℕ → List ℕ → ℕ → FromPeers → FromPeers → Type 0
+NotesAgain from bytes now old new =
+    (new.again ≡ old.again)
+    ⊎ ((sender to epoch number : ℕ) × HasHead 1 sender to epoch number bytes × NotesWent sender epoch number now old.again new.again × IsMadeReady from bytes old.ready.items new.ready.items)
+
+-- where a later frame of its link is expected, it does stay back
+abbrev pub NoneAgain : List ℕ → ℕ → FromPeers → FromPeers → Type 0
+NoneAgain bytes now old new = (sender to epoch number : ℕ) → HasHead 1 sender to epoch number bytes → IsPastIn sender epoch number old.early.links.items → IsAgain sender epoch number now old.again → new ≡ old
 
 -- it is taken, the frames that waited for it are ready behind it, and nothing that was kept of peers is lost
-abbrev pub JoinsPeers : ℕ → List ℕ → FromPeers → FromPeers → Type 0
-JoinsPeers from bytes old new = IsTaken from bytes old new × IsFollowed from bytes old new × StaysReady old.ready.items new.ready.items × NoneLost old new
+abbrev pub JoinsPeers : ℕ → List ℕ → ℕ → FromPeers → FromPeers → Type 0
+JoinsPeers from bytes now old new =
+    IsTaken from bytes now old new × IsFollowed from bytes old new × StaysReady old.ready.items new.ready.items × NoneLost old new × NoneAgain bytes now old new × NotesAgain from bytes now old new
 
 -- ---- of one who is no peer
 
@@ -81,6 +102,6 @@ IsOfDeaf from peers = (p : Peer) × Contains peers p × (p.address ≡ from) × 
 -- a datagram of a peer is taken, and that of another if it asks for something; what a peer says of hearing is not handed up, nor is what comes from one that does not hear this node
 abbrev pub Comes : ℕ → List ℕ → ℕ → List Peer → Inbound → Inbound → Type 0
 Comes from bytes now peers old new =
-    (IsPeer from peers × JoinsPeers from bytes old.peers new.peers × (new.clients ≡ old.clients))
+    (IsPeer from peers × JoinsPeers from bytes now old.peers new.peers × (new.clients ≡ old.clients))
     ⊎ ((IsStranger from peers × IsAsked from bytes now old.clients new.clients × (new.peers ≡ old.peers))
     ⊎ ((new ≡ old) × (IsSaid bytes ⊎ IsOfDeaf from peers)))

@@ -1,7 +1,7 @@
 //! Frames that were received before an earlier frame of their link.
 
 ghost use Rattle.std.specs.Prelude.{◌≡◌, ◌<◌, ◌≤◌, ◌↔◌, ◌-◌, ◌^◌, ◌==◌, if◌then◌else◌, ℕ, [], None, length, slice_index_or, slice_set, IfOk, IfErr, IfSome, IsSome, IsTrue, OnOk, true};
-ghost use Rattle.crsm_port_flow.specs.Early.{Expects, kept_at, IsAfterExpected, IsEarlyIn, IsFrameBelow, IsFrameOf, KeepsSome, Learns, LosesBelow, NoneBelow, NoneNext, OneMoreWaits, StayKept, TakesNext, Waits, WaitsAs, after, place_of};
+ghost use Rattle.crsm_port_flow.specs.Early.{Expects, kept_at, IsAfterExpected, IsBeforeExpected, IsEarlyIn, IsFrameBelow, IsFrameOf, IsPastIn, KeepsSome, Learns, LosesBelow, NoneBelow, NoneNext, OneMoreWaits, StayKept, TakesNext, Waits, WaitsAs, after, place_of};
 
 use crate::datagram::{Buffers, Datagram};
 use crate::heads::Head;
@@ -56,6 +56,13 @@ impl Link {
     {
         self.epoch == epoch && number > self.next && number - self.next < WINDOW as u64
     }
+
+    /// Returns whether the frame is before the expected one.
+    fn is_past(&self, epoch: u64, number: u64) -> bool
+        ensures { IsTrue result ↔ IsBeforeExpected epoch number self.now }
+    {
+        self.epoch == epoch && number < self.next
+    }
 }
 
 /// Frames that arrived early, each at its sender and number. A link delivers nothing while a frame is missing, and then
@@ -89,6 +96,16 @@ impl Early {
             links: Vec::from_elem(alloc, nothing, REPLICAS)?,
             frames: no_frames(alloc)?,
         })
+    }
+
+    /// Returns whether a later frame of its link is expected.
+    pub(crate) fn is_past(&self, frame: Head) -> bool
+        ensures { IsTrue result ↔ IsPastIn frame.from frame.epoch frame.number self.now.links.items }
+    {
+        match self.links.get(usize::from(frame.from)) {
+            Some(link) => link.is_past(frame.epoch, frame.number),
+            None => false,
+        }
     }
 
     /// Returns what becomes of a received frame.

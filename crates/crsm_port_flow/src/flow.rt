@@ -15,6 +15,7 @@ ghost use Rattle.crsm_port_flow.specs.Order.{NextGoes, NothingGoes};
 ghost use Rattle.crsm_port_flow.specs.Reads.{IsAnswer, ReadsAhead, ReadsAll, ReadsOne, SendsAndTakes, TakesAndEnds, TakesOrEnds, state_of};
 ghost use Rattle.crsm_port_flow.specs.Same.{SameClients, SameKept, SamePeers, StaysWhenSent};
 ghost use Rattle.crsm_port_flow.specs.Taken.{Comes, IsStranger};
+ghost use Rattle.crsm_port_flow.specs.Ticks.{IsTickDue, NotesAnswer, TicksFirst, at_tick};
 ghost use Rattle.crsm_port_flow.specs.Traffic.{IsHeldBack, acks_of, given_over, sent_over};
 ghost use Rattle.crsm_port_flow.specs.Turns.{IsAnswered, IsReplyTo};
 ghost use Rattle.crsm_port_flow.specs.Waits.{HoldsStill, Notes, NotesNone};
@@ -28,6 +29,7 @@ use crate::inbound::Inbound;
 use crate::outbound::Outbound;
 use crate::peers::MOST_AHEAD;
 use crate::quiet::Quiet;
+use crate::ticks::Ticks;
 use crsm_base::{Failed, NoMemory};
 use crsm_clock::Clock;
 use crsm_port::{Port, Recv};
@@ -65,19 +67,22 @@ const MOST_TAKEN: usize = 2_048;
 ///   is not heard until it does;
 /// - where nothing but times came and went for 50 milliseconds, the inner port is asked to wait longer, or not at all if
 ///   a peer was heard and the last flush is 7 milliseconds ago: an empty receive is a tick, so nodes that are idle tell
-///   their times together, and wake once for all.
+///   their times together, and wake once for all;
+/// - the first receive after a flush answers nothing, although something may be ready, if none did for 10 milliseconds:
+///   a tick is due then, and would end a group behind its first datagram.
 ///
 /// A send that is held back is answered as sent, whether it is sent later or not: a network may lose it.
 #[derive(Drop)]
 pub struct FlowPort<P, C> {
     port: P,
     clock: C,
-    // The clock's reading before the next sends, in microseconds.
+    // The clock's reading before the next sends, or at the first receive after the last ones, in microseconds.
     now: u64,
     inbound: Inbound,
     outbound: Outbound,
     hearing: Hearing,
     quiet: Quiet,
+    ticks: Ticks,
     // A received datagram.
     room: Vec<u8>,
     // Whether a receive failed after the datagrams that were read ahead.
@@ -105,6 +110,7 @@ impl<P: Drop, C: Drop> FlowPort<P, C> {
         ensures room { IfOk result (λ p. (length p.room.items ≡ 8_201) × (p.has_failed ≡ false)) }
         ensures nothing { IfOk result (λ p. NoMore (λ _ _. ⊥) (kept_in p.inbound) × (p.outbound.acks.acks.items ≡ [])) }
         ensures unsaid { IfOk result (λ p. p.hearing.said_at ≡ None) }
+        ensures ticks { IfOk result (λ p. p.ticks ≡ at_tick 0) }
         ensures frames { IfOk result (λ p. All (λ f. f.at ≡ 0) p.outbound.repeats.last.items) }
         ensures parts { IfOk result (λ p. All (λ q. q.at ≡ 0) p.outbound.parts.last.items) }
         ensures window { IfOk result (λ p. p.outbound.window ≡ new_window 0) }
@@ -123,6 +129,7 @@ impl<P: Drop, C: Drop> FlowPort<P, C> {
             outbound,
             hearing,
             quiet: Quiet::new(),
+            ticks: Ticks::new(),
             room,
             has_failed: false,
             is_soon: false,
@@ -205,6 +212,7 @@ impl<P: Port, C: Clock> FlowPort<P, C> {
         ensures noted { NotesNone self.old.outbound self.new.outbound }
         ensures reads { ReadsAll self.old.has_failed self.new.has_failed self.old.now (state_of (P.meaning self.old.port) self.old) (state_of (P.meaning self.new.port) self.new) }
         ensures now { self.new.now ≡ self.old.now }
+        ensures ticks { self.new.ticks ≡ self.old.ticks }
         ensures counts { unknown self.new.faults self.new.losses self.new.empties ≡ unknown self.old.faults self.old.losses self.old.empties }
     {
         for _ in 0..MOST_TAKEN {
@@ -226,6 +234,7 @@ impl<P: Port, C: Clock> FlowPort<P, C> {
         ensures noted { NotesNone self.old.outbound self.new.outbound }
         ensures reads { ReadsOne self.old.has_failed self.new.has_failed self.old.now (state_of (P.meaning self.old.port) self.old) (state_of (P.meaning self.new.port) self.new) result }
         ensures now { self.new.now ≡ self.old.now }
+        ensures ticks { self.new.ticks ≡ self.old.ticks }
         ensures counts { unknown self.new.faults self.new.losses self.new.empties ≡ unknown self.old.faults self.old.losses self.old.empties }
     {
         if self.has_failed {
@@ -257,6 +266,8 @@ impl<P: Port, C: Clock> FlowPort<P, C> {
         ensures takes { TakesAndEnds self.old.has_failed self.old.now buf.old buf.new (state_of (P.meaning self.old.port) self.old) (state_of (P.meaning self.new.port) self.new) result }
         ensures ready { OnOk result (self.new.has_failed ≡ self.old.has_failed) }
         ensures failed { OnErr result (self.new.has_failed ≡ false) }
+        ensures now { self.new.now ≡ self.old.now }
+        ensures ticks { self.new.ticks ≡ self.old.ticks }
         ensures counts { unknown self.new.faults self.new.losses self.new.empties ≡ unknown self.old.faults self.old.losses self.old.empties }
     {
         let got = self.first_or_next(buf);
@@ -277,6 +288,8 @@ impl<P: Port, C: Clock> FlowPort<P, C> {
         ensures takes { TakesAndEnds self.old.has_failed self.old.now buf.old buf.new (state_of (P.meaning self.old.port) self.old) (state_of (P.meaning self.new.port) self.new) result }
         ensures ready { OnOk result (self.new.has_failed ≡ self.old.has_failed) }
         ensures failed { OnErr result (self.new.has_failed ≡ false) }
+        ensures now { self.new.now ≡ self.old.now }
+        ensures ticks { self.new.ticks ≡ self.old.ticks }
         ensures counts { unknown self.new.faults self.new.losses self.new.empties ≡ unknown self.old.faults self.old.losses self.old.empties }
     {
         if self.inbound.peers.ready() > 0 {
@@ -297,6 +310,8 @@ impl<P: Port, C: Clock> FlowPort<P, C> {
         ensures takes { TakesAndEnds self.old.has_failed self.old.now buf.old buf.new (state_of (P.meaning self.old.port) self.old) (state_of (P.meaning self.new.port) self.new) result }
         ensures ready { OnOk result (self.new.has_failed ≡ self.old.has_failed) }
         ensures failed { OnErr result (self.new.has_failed ≡ false) }
+        ensures now { self.new.now ≡ self.old.now }
+        ensures ticks { self.new.ticks ≡ self.old.ticks }
         ensures counts { unknown self.new.faults self.new.losses self.new.empties ≡ unknown self.old.faults self.old.losses self.old.empties }
     {
         for _ in 0..MOST_TAKEN {
@@ -319,6 +334,7 @@ impl<P: Port, C: Clock> FlowPort<P, C> {
         ensures ready { OnOk result (self.new.has_failed ≡ self.old.has_failed) }
         ensures failed { OnErr result (self.new.has_failed ≡ false) }
         ensures now { self.new.now ≡ self.old.now }
+        ensures ticks { self.new.ticks ≡ self.old.ticks }
         ensures counts { unknown self.new.faults self.new.losses self.new.empties ≡ unknown self.old.faults self.old.losses self.old.empties }
         ensures nothing { IfOk result (λ got. IfSome got (λ up. up ≡ Recv.Nothing → NothingGoes self.new.now self.new.inbound self.new.outbound.window)) }
     {
@@ -342,6 +358,7 @@ impl<P: Port, C: Clock> FlowPort<P, C> {
         ensures ready { OnOk result (self.new.has_failed ≡ self.old.has_failed) }
         ensures failed { OnErr result (self.new.has_failed ≡ false) }
         ensures now { self.new.now ≡ self.old.now }
+        ensures ticks { self.new.ticks ≡ self.old.ticks }
         ensures counts { unknown self.new.faults self.new.losses self.new.empties ≡ unknown self.old.faults self.old.losses self.old.empties }
         ensures nothing { IfOk result (λ got. IfSome got (λ up. up ≡ Recv.Nothing → NothingGoes self.new.now self.new.inbound self.new.outbound.window)) }
     {
@@ -421,18 +438,29 @@ impl<P: Port, C: Clock> Port for FlowPort<P, C> {
     fn recv(&mut self, buf: &mut [u8]) -> Result<Recv, Failed>
         ensures receives { Receives (unknown self.old.faults self.old.losses self.old.empties) (unknown self.new.faults self.new.losses self.new.empties) buf.old buf.new result }
         ensures hands_up { HandsUpBy (given_over P.gives) (sent_over P.may_send) self.old self.new buf.new result }
-        ensures goes { self.old.inbound.peers.ready.items ≢ [] → IsOkAnd result (NextGoes self.old.inbound self.new.inbound buf.old buf.new) }
-        ensures nothing { IfOk result (λ got. got ≡ Recv.Nothing → NothingGoes self.new.now self.new.inbound self.new.outbound.window) }
+        ensures goes { self.old.inbound.peers.ready.items ≢ [] → IsOkAnd result (NextGoes self.old.inbound self.new.inbound buf.old buf.new) ⊎ TicksFirst P.meaning self.old self.new result }
+        ensures nothing { IfOk result (λ got. got ≡ Recv.Nothing → NothingGoes self.new.now self.new.inbound self.new.outbound.window ⊎ TicksFirst P.meaning self.old self.new result) }
         ensures noted { NotesNone self.old.outbound self.new.outbound }
         ensures none_held { self.new.outbound.acks.acks.items ≡ [] }
-        ensures takes { SendsAndTakes (acks_of self.old) self.old.has_failed self.old.now buf.old buf.new (state_of (P.meaning self.old.port) self.old) (state_of (P.meaning self.new.port) self.new) result }
+        ensures takes { SendsAndTakes (acks_of self.old) self.old.has_failed self.new.now buf.old buf.new (state_of (P.meaning self.old.port) self.old) (state_of (P.meaning self.new.port) self.new) result
+            ⊎ TicksFirst P.meaning self.old self.new result }
+        ensures ticks { NotesAnswer result self.new.now self.old.ticks self.new.ticks }
+        ensures due { IsTickDue self.new.now self.old.ticks → TicksFirst P.meaning self.old self.new result }
+        ensures reading { self.old.ticks.has_flushed ≡ true → (after : Option Readings) × Gives (C.readings self.old.clock) after self.new.now }
+        ensures same_reading { self.old.ticks.has_flushed ≡ false → self.new.now ≡ self.old.now }
         ensures ready { OnOk result (self.new.has_failed ≡ self.old.has_failed) }
         ensures failed { OnErr result (self.new.has_failed ≡ false) }
     {
         self.outbound.acks.let_go(&mut self.port);
+        self.now = self.ticks.reading(&mut self.clock, self.now);
+        if self.ticks.goes_first(self.now) {
+            raise(&mut self.empties);
+            return Ok(Recv::Nothing);
+        }
         match self.next_once(buf) {
             Ok(Recv::Datagram { from, len }) => Ok(Recv::Datagram { from, len }),
             Ok(Recv::Nothing) => {
+                self.ticks.note_nothing(self.now);
                 raise(&mut self.empties);
                 Ok(Recv::Nothing)
             }
@@ -473,6 +501,7 @@ impl<P: Port, C: Clock> Port for FlowPort<P, C> {
     fn reserve(&mut self, sends: u64, bytes: u64) -> Result<(), NoMemory>
         ensures reserves { Reserves sends bytes (unknown self.old.faults self.old.losses self.old.empties) (unknown self.new.faults self.new.losses self.new.empties) result }
         ensures rests { RestsBy (given_over P.gives) (sent_over P.may_send) self.old self.new }
+        ensures ticks { self.new.ticks ≡ self.old.ticks }
         ensures noted { NotesNone self.old.outbound self.new.outbound }
         ensures acks { self.new.outbound.acks ≡ self.old.outbound.acks }
         ensures reading { (after : Option Readings) × Gives (C.readings self.old.clock) after self.new.now }
@@ -499,11 +528,13 @@ impl<P: Port, C: Clock> Port for FlowPort<P, C> {
         ensures none_held { self.new.outbound.acks.acks.items ≡ [] }
         ensures noted { NotesNone self.old.outbound self.new.outbound }
         ensures window { self.new.outbound.window ≡ self.old.outbound.window }
-        ensures stays { self.new ≡ record self.old { port = self.new.port; outbound = self.new.outbound; quiet = self.new.quiet; hearing = record self.old.hearing { said_at = self.new.hearing.said_at } } }
+        ensures stays { self.new ≡ record self.old { port = self.new.port; outbound = self.new.outbound; quiet = self.new.quiet; ticks = self.new.ticks; hearing = record self.old.hearing { said_at = self.new.hearing.said_at } } }
+        ensures ticks { self.new.ticks ≡ record self.old.ticks { has_flushed = true } }
     {
         self.outbound.acks.let_go(&mut self.port);
         self.hearing.say(self.now, &mut self.port);
         self.quiet.note_flush(self.now);
+        self.ticks.note_flush();
         self.port.flush();
     }
 }

@@ -3,6 +3,7 @@
 #![tactic(auto)]
 
 mod acks;
+mod again;
 mod clients;
 mod commands;
 mod datagram;
@@ -18,6 +19,7 @@ mod quiet;
 mod repeats;
 mod requests;
 mod room;
+mod ticks;
 mod time;
 mod window;
 

@@ -4,6 +4,7 @@ ghost use Rattle.std.specs.Prelude.{◌≡◌, ◌+◌, ◌<◌, ◌≤◌, leng
 ghost use Rattle.std.specs.VecDeque.{deque_capacity};
 ghost use Rattle.crsm_port_flow.specs.Early.{frames_in};
 
+use crate::again::Again;
 use crate::datagram::{Buffers, Datagram, Loss, PACKET_BYTES};
 use crate::early::{Early, FrameFate, MOST_EARLY};
 use crate::heads::{FRAME, Head, head_in};
@@ -25,31 +26,35 @@ pub(crate) struct FromPeers {
     buffers: Buffers,
     ready: VecDeque<Datagram>,
     early: Early,
+    again: Again,
     ghost few: { length ready.items + frames_in early.frames.items ≤ 16_384 },
     ghost reserved: { 16_384 ≤ deque_capacity ready },
 }
 
 impl FromPeers {
-    ghost use Rattle.std.specs.Prelude.{◌⊎◌, ◌++◌, [], ◌∷◌, IfOk, IfSome, IsErrOf, OnErr, OnOk, None};
+    ghost use Rattle.std.specs.Prelude.{◌⊎◌, ◌++◌, [], ◌∷◌, All, IfOk, IfSome, IsErrOf, OnErr, OnOk, None};
     ghost use Rattle.crsm_port.specs.Passing.{NoMore};
-    ghost use Rattle.crsm_port_flow.specs.Early.{WaitsAs, kept_at};
-    ghost use Rattle.crsm_port_flow.specs.Followed.{Follow, IsExpectedOf, IsFollowed, IsFollowedFrom, LosesPast, NoneLost};
+    ghost use Rattle.crsm_port_flow.specs.Again.{IsAgain};
+    ghost use Rattle.crsm_port_flow.specs.Early.{IsPastIn, WaitsAs, kept_at};
+    ghost use Rattle.crsm_port_flow.specs.Followed.{Follow, IsExpectedOf, IsFollowed, IsFollowedFrom, IsNotedOf, LosesPast, NoneLost};
     ghost use Rattle.crsm_port_flow.specs.Heads.{HasHead};
     ghost use Rattle.crsm_port_flow.specs.Kept.{Is, KeepsOnly, of_peers};
     ghost use Rattle.crsm_port_flow.specs.Lost.{CannotWait};
     ghost use Rattle.crsm_port_flow.specs.Order.{FirstGoes};
     ghost use Rattle.crsm_port_flow.specs.Rooms.{IsShortOf};
     ghost use Rattle.crsm_port_flow.specs.Same.{SamePeers};
-    ghost use Rattle.crsm_port_flow.specs.Taken.{IsMadeReady, IsTaken, StaysReady};
+    ghost use Rattle.crsm_port_flow.specs.Taken.{GoesAgain, IsMadeReady, IsTaken, NoneAgain, NotesAgain, StaysReady};
 
     /// Returns a state without datagrams, or `NoMemory` if memory runs out.
     pub(crate) fn new(alloc: Global) -> Result<FromPeers, NoMemory>
-        ensures { IfOk result (λ p. NoMore (λ _ _. ⊥) (of_peers p)) }
+        ensures nothing { IfOk result (λ p. NoMore (λ _ _. ⊥) (of_peers p)) }
+        ensures said { IfOk result (λ p. All (λ s. s.next ≡ 0) p.again.said.items) }
     {
         Ok(FromPeers {
             buffers: Buffers::new(alloc),
             ready: VecDeque::with_capacity(alloc, MOST_READY)?,
             early: Early::new(alloc)?,
+            again: Again::new(alloc)?,
         })
     }
 
@@ -64,7 +69,9 @@ impl FromPeers {
     /// and `NoMemory` if memory runs out; the datagram is then lost, as any may be, and nothing else.
     pub(crate) fn take_in(&mut self, from: u64, bytes: &[u8], now: u64) -> Result<(), Loss>
         requires few { length self.old.ready.items < 1_024 }
-        ensures taken { OnOk result (IsTaken from bytes.now self.old self.new) }
+        ensures taken { OnOk result (IsTaken from bytes.now now self.old self.new) }
+        ensures back { OnOk result (NoneAgain bytes.now now self.old self.new) }
+        ensures again { NotesAgain from bytes.now now self.old self.new }
         ensures dropped { IsErrOf result Loss.Dropped → CannotWait bytes.now self.old }
         ensures no_memory { IsErrOf result Loss.NoMemory → IsShortOf (length bytes.now) self.old.buffers }
         ensures followed { OnOk result (IsFollowed from bytes.now self.old self.new) }
@@ -84,6 +91,7 @@ impl FromPeers {
         requires few { length self.old.ready.items < 1_024 }
         ensures ready { OnOk result ((d : Datagram) × Is from bytes.now d × (self.new.ready.items ≡ self.old.ready.items ++ d ∷ [])) }
         ensures no_memory { OnErr result (IsShortOf (length bytes.now) self.old.buffers) }
+        ensures again { self.new.again ≡ self.old.again }
         ensures stays { StaysReady self.old.ready.items self.new.ready.items }
         ensures early { self.new.early ≡ self.old.early }
         ensures unchanged { OnErr result (SamePeers self.old self.new) }
@@ -94,11 +102,13 @@ impl FromPeers {
         Ok(())
     }
 
-    /// Takes a frame in. If it is the expected one, those that waited for it follow it.
+    /// Takes a frame in. If it is the expected one, those that waited for it follow it; if it is past, it may stay back.
     fn take_frame(&mut self, from: u64, bytes: &[u8], frame: Head, now: u64) -> Result<(), Loss>
         requires head { HasHead 1 frame.from frame.to frame.epoch frame.number bytes.now }
         requires few { length self.old.ready.items < 1_024 }
-        ensures taken { OnOk result (IsTaken from bytes.now self.old self.new) }
+        ensures taken { OnOk result (IsTaken from bytes.now now self.old self.new) }
+        ensures back { IsPastIn frame.from frame.epoch frame.number self.old.early.links.items → IsAgain frame.from frame.epoch frame.number now self.old.again → OnOk result (self.new ≡ self.old) }
+        ensures again { NotesAgain from bytes.now now self.old self.new }
         ensures dropped { IsErrOf result Loss.Dropped → CannotWait bytes.now self.old }
         ensures no_memory { IsErrOf result Loss.NoMemory → IsShortOf (length bytes.now) self.old.buffers }
         ensures followed { OnOk result (IsFollowedFrom frame.from frame.epoch frame.number from bytes.now self.old self.new) }
@@ -107,11 +117,36 @@ impl FromPeers {
         ensures unchanged { OnErr result (SamePeers self.old self.new) }
         ensures only { KeepsOnly from bytes.now (of_peers self.old) (of_peers self.new) }
     {
+        if self.early.is_past(frame) {
+            return Ok(self.take_again(from, bytes, frame, now)?);
+        }
         match self.early.fate(frame) {
             FrameFate::InOrder => Ok(self.take_in_order(from, bytes, frame)?),
             FrameFate::Waits => self.take_early(from, bytes, frame, now),
             FrameFate::IsKept => Ok(()),
         }
+    }
+
+    /// Makes a frame ready that is past, unless the replica has acknowledged it and such a frame of its link went up a
+    /// moment ago.
+    fn take_again(&mut self, from: u64, bytes: &[u8], frame: Head, now: u64) -> Result<(), NoMemory>
+        requires head { HasHead 1 frame.from frame.to frame.epoch frame.number bytes.now }
+        requires few { length self.old.ready.items < 1_024 }
+        ensures goes { OnOk result (GoesAgain from bytes.now now self.old self.new) }
+        ensures back { IsAgain frame.from frame.epoch frame.number now self.old.again → OnOk result (self.new ≡ self.old) }
+        ensures noted { NotesAgain from bytes.now now self.old self.new }
+        ensures no_memory { OnErr result (IsShortOf (length bytes.now) self.old.buffers) }
+        ensures early { self.new.early ≡ self.old.early }
+        ensures stays { StaysReady self.old.ready.items self.new.ready.items }
+        ensures unchanged { OnErr result (SamePeers self.old self.new) }
+        ensures only { KeepsOnly from bytes.now (of_peers self.old) (of_peers self.new) }
+    {
+        if self.again.holds_back(frame, now) {
+            return Ok(());
+        }
+        self.make_ready(from, bytes)?;
+        self.again.note_went(frame, now);
+        Ok(())
     }
 
     /// Makes a frame ready, and those that have waited for it.
@@ -121,6 +156,7 @@ impl FromPeers {
         ensures no_memory { OnErr result (IsShortOf (length bytes.now) self.old.buffers) }
         ensures followed { OnOk result (IsFollowedFrom frame.from frame.epoch frame.number from bytes.now self.old self.new) }
         ensures none_lost { NoneLost self.old self.new }
+        ensures again { self.new.again ≡ self.old.again }
         ensures stays { StaysReady self.old.ready.items self.new.ready.items }
         ensures unchanged { OnErr result (SamePeers self.old self.new) }
         ensures only { KeepsOnly from bytes.now (of_peers self.old) (of_peers self.new) }
@@ -138,6 +174,7 @@ impl FromPeers {
         ensures dropped { IsErrOf result Loss.Dropped → (1_232 < length bytes.now) ⊎ (kept_at frame.from frame.number self.old.early.frames.items ≡ None → ⊥) }
         ensures no_memory { IsErrOf result Loss.NoMemory → IsShortOf (length bytes.now) self.old.buffers }
         ensures none_lost { NoneLost self.old self.new }
+        ensures again { self.new.again ≡ self.old.again }
         ensures stays { StaysReady self.old.ready.items self.new.ready.items }
         ensures unchanged { OnErr result (SamePeers self.old self.new) }
         ensures only { KeepsOnly from bytes.now (of_peers self.old) (of_peers self.new) }
@@ -161,6 +198,7 @@ impl FromPeers {
     fn follow(&mut self, sender: u8)
         ensures follow { Follow sender self.old self.new }
         ensures none_lost { NoneLost self.old self.new }
+        ensures again { self.new.again ≡ self.old.again }
         ensures stays { StaysReady self.old.ready.items self.new.ready.items }
         ensures only { NoMore (of_peers self.old) (of_peers self.new) }
     {
@@ -183,6 +221,7 @@ impl FromPeers {
     /// Records the sequence number that this replica expects next from another, and makes the frames ready that have
     /// waited for those before it.
     pub(crate) fn note_expected(&mut self, expected: Head)
+        ensures acknowledged { IsNotedOf expected.to expected.epoch expected.number self.old self.new }
         ensures lost { LosesPast expected.to expected.epoch expected.number self.old self.new }
         ensures expected { IsExpectedOf expected.to expected.epoch expected.number self.old self.new }
         ensures stays { StaysReady self.old.ready.items self.new.ready.items }
@@ -194,6 +233,7 @@ impl FromPeers {
             number,
             ..
         } = expected;
+        self.again.note_said(of, epoch, number);
         self.early
             .note_expected(of, epoch, number, &mut self.buffers);
         self.follow(of);

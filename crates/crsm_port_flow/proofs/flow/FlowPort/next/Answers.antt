@@ -29,7 +29,7 @@ returns-clause-gives g c =
 pub loop-init : goal.loop-init
 loop-init g c =
     let p = c.args.self.now in
-    record { gives = λ a b h. h; sends = λ a b h. h; counts = refl; acks = refl; noted = (refl, refl); takes = none_came p.now (state_of (g.P.Port.meaning p.port) p); failed = refl; now = refl }
+    record { gives = λ a b h. h; sends = λ a b h. h; counts = refl; acks = refl; noted = (refl, refl); takes = none_came p.now (state_of (g.P.Port.meaning p.port) p); failed = refl; now = refl; ticks = refl }
 
 pub loop-preserved : goal.loop-preserved
 loop-preserved g c =
@@ -47,6 +47,7 @@ loop-preserved g c =
       takes = one_more p.now s.now inv.now inv.takes.0 (state_of (g.P.Port.meaning p.port) p) (state_of (g.P.Port.meaning s.port) s) (state_of (g.P.Port.meaning n.port) n) inv.takes.1 c.loop.counter inv.takes.2 s.has_failed c.loop.buf c.next_or_more.new.buf c.in_ok-got.field-0 c.in_default.is e.takes;
       failed = e.ready ∙ inv.failed;
       now = e.now ∙ inv.now;
+      ticks = e.ticks ∙ inv.ticks;
     }
 
 pub returns-in-Some-clause-takes : goal.returns-in-Some-clause-takes

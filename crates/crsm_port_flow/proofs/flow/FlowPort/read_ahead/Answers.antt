@@ -6,7 +6,7 @@ use Rattle.crsm_port_flow.proofs.flow.FlowPort.read_ahead.Goals as goal
 pub loop-init : goal.loop-init
 loop-init g c =
     let p = c.args.self.now in
-    record { gives = λ a b h. h; sends = λ a b h. h; counts = refl; acks = refl; noted = (refl, refl); takes = none_came p.now (state_of (g.P.Port.meaning p.port) p); failed = refl; now = refl }
+    record { gives = λ a b h. h; sends = λ a b h. h; counts = refl; acks = refl; noted = (refl, refl); takes = none_came p.now (state_of (g.P.Port.meaning p.port) p); failed = refl; now = refl; ticks = refl }
 
 pub loop-preserved : goal.loop-preserved
 loop-preserved g c =
@@ -25,6 +25,7 @@ loop-preserved g c =
       takes = read.0;
       failed = read.1;
       now = e.now ∙ inv.now;
+      ticks = e.ticks ∙ inv.ticks;
     }
 
 pub returns-then-ready-ge-MOST_AHEAD-clause-reads : goal.returns-then-ready-ge-MOST_AHEAD-clause-reads

@@ -17,4 +17,5 @@ invariant-loop g l = record {
   takes : (came : List Packet) × TakesAll l.initial.self.now came (state_of (g.P.Port.meaning l.initial.self.port) l.initial.self) (state_of (g.P.Port.meaning l.self.port) l.self) × (length came ≡ l.counter);
   failed : l.self.has_failed ≡ l.initial.self.has_failed;
   now : l.self.now ≡ l.initial.self.now;
+  ticks : l.self.ticks ≡ l.initial.self.ticks;
 }

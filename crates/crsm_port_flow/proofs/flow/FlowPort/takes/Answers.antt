@@ -1,13 +1,13 @@
 use Rattle.std.proofs.Common.{◌≡◌, ℕ, List, arith, inl, inr, refl, subst, take}
 use Rattle.std.proofs.lemmas.Grind.{common_steps}
-use Rattle.crsm_port_flow.proofs.Earlies.{err_map, ok_both, ok_map}
+use Rattle.crsm_port_flow.proofs.Earlies.{err_map, ok_map, ok_three}
 use Rattle.crsm_port_flow.proofs.Keepings.{clients_kept, peers_kept}
 use Rattle.crsm_port_flow.specs.Followed.{IsFollowed}
 use Rattle.crsm_port_flow.specs.Hears.{AreKnownBy}
 use Rattle.crsm_port_flow.specs.Kept.{KeepsOnly, kept_in}
 use Rattle.crsm_port_flow.specs.Lost.{MayDrop, MayLackMemory}
 use Rattle.crsm_port_flow.specs.Same.{SameClients, SamePeers}
-use Rattle.crsm_port_flow.specs.Taken.{Comes, IsAsked, IsTaken}
+use Rattle.crsm_port_flow.specs.Taken.{Comes, IsAsked, IsTaken, NoneAgain}
 use Rattle.crsm_port_flow.specs.Windows.{WindowTakes}
 use Rattle.crsm_port_flow.specs.declared.inbound.Inbound.{Inbound}
 use Rattle.crsm_port_flow.proofs.flow.FlowPort.takes.Goals as goal
@@ -33,8 +33,8 @@ returns-in-Open-clause-comes g c =
     let j : Inbound = record i { peers = c.take_in.new.self } in
     let same : c.in-Some.bytes.now ≡ take c.args.len s.room.items = grind (arith, common_steps, c.in-Some.ensures.lookup, c.deref.ensures.value) in
     let e = c.take_in.ensures in
-    ok_both c.take_in.result (IsTaken c.args.from c.in-Some.bytes.now i.peers j.peers) (IsFollowed c.args.from c.in-Some.bytes.now i.peers j.peers) _
-    (λ taken followed. subst (λ (b : List ℕ). Comes c.args.from b s.now s.hearing.peers.items i j) same (inl (c.in-Open.ensures.peer refl, (taken, followed, e.stays, e.none_lost), refl))) e.taken e.followed
+    ok_three c.take_in.result (IsTaken c.args.from c.in-Some.bytes.now s.now i.peers j.peers) (IsFollowed c.args.from c.in-Some.bytes.now i.peers j.peers) (NoneAgain c.in-Some.bytes.now s.now i.peers j.peers) _
+    (λ taken followed back. subst (λ (b : List ℕ). Comes c.args.from b s.now s.hearing.peers.items i j) same (inl (c.in-Open.ensures.peer refl, (taken, followed, e.stays, e.none_lost, back, e.again), refl))) e.taken e.followed e.back
 
 pub returns-in-Open-clause-unchanged : goal.returns-in-Open-clause-unchanged
 returns-in-Open-clause-unchanged g c =

@@ -20,7 +20,7 @@ returns-then-is_reply-clause-rest c =
 pub returns-in-Some-clause-goes_by : goal.returns-in-Some-clause-goes_by
 returns-in-Some-clause-goes_by c =
     let h = c.in-Some.expected in
-    inl (h.from, h.to, h.epoch, h.number, c.in-Some.ensures.head, c.note_expected.ensures.lost, c.note_expected.ensures.expected)
+    inl (h.from, h.to, h.epoch, h.number, c.in-Some.ensures.head, c.note_expected.ensures.lost, c.note_expected.ensures.expected, c.note_expected.ensures.acknowledged)
 
 pub returns-else-is_reply-clause-goes_by : goal.returns-else-is_reply-clause-goes_by
 returns-else-is_reply-clause-goes_by c =

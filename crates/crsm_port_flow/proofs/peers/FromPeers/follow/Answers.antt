@@ -15,6 +15,7 @@ loop-datagram-init c = record {
   none_lost = λ f has. inl has;
   stays = stays_same c.args.self.now.ready.items c.args.self.now.ready.items refl;
   only = λ a b h. h;
+  again = refl;
 }
 
 pub loop-datagram-preserved : goal.loop-datagram-preserved
@@ -50,6 +51,7 @@ loop-datagram-preserved c =
       ];
       stays = stays_then start.ready.items p.ready.items ready.items inv.stays (d ∷ [], more);
       only = λ a b h. inv.only a b (moved p.ready.items ready.items frames early.frames.items d more (takes_was sender d p.early.links.items early.links.items frames early.frames.items takes) keeps a b h);
+      again = inv.again;
     }
 
 pub returns-clause-follow : goal.returns-clause-follow

@@ -15,6 +15,7 @@ invariant-loop-datagram l = record {
   none_lost : NoneLost l.initial.self l.self;
   stays : StaysReady l.initial.self.ready.items l.self.ready.items;
   only : NoMore (of_peers l.initial.self) (of_peers l.self);
+  again : l.self.again ≡ l.initial.self.again;
 }
 
 abbrev pub decreases-loop-datagram : goal.decreases-loop-datagram

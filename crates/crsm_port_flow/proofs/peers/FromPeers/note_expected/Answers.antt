@@ -1,6 +1,8 @@
-use Rattle.std.proofs.Common.{arith}
+use Rattle.std.proofs.Common.{◌∙◌, ap, arith, subst, sym}
 use Rattle.crsm_port_flow.proofs.Earlies.{frames_fewer, peers_rest}
 use Rattle.crsm_port_flow.proofs.Pasts.{is_expected, loses_past}
+use Rattle.crsm_port_flow.specs.Again.{Acknowledges}
+use Rattle.crsm_port_flow.specs.declared.again.Again.{Again}
 use Rattle.crsm_port_flow.proofs.peers.FromPeers.note_expected.Goals as goal
 
 pub invariant_of-self : goal.invariant_of-self
@@ -33,3 +35,11 @@ returns-clause-expected c =
     let head = c.args.expected in
     is_expected head.to head.epoch head.number early.links.items mid.links.items new.early.links.items early.frames.items mid.frames.items new.early.frames.items new.ready.items (omega arith) c.note_expected.ensures.learns
     (λ e number expects. let (behind, _, (last, are, now, none)) = c.follow.ensures.follow e number expects in (behind, last, are, now, none))
+
+pub returns-clause-acknowledged : goal.returns-clause-acknowledged
+returns-clause-acknowledged c =
+    let p = c.args.self.now in
+    let head = c.args.expected in (
+      subst (λ (a : Again). Acknowledges head.to head.epoch head.number p.again.said.items a.said.items) (sym c.follow.ensures.again) c.note_said.ensures.said,
+      ap (λ (a : Again). a.went_at) c.follow.ensures.again ∙ c.note_said.ensures.went,
+    )

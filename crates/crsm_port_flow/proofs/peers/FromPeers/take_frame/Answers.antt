@@ -30,7 +30,7 @@ returns-in-Waits-clause-followed c =
 pub returns-in-IsKept-clause-taken : goal.returns-in-IsKept-clause-taken
 returns-in-IsKept-clause-taken c =
     let f = c.args.frame in
-    inr (inr ((f.from, f.to, f.epoch, f.number, c.requires.head, c.in-IsKept.ensures.kept refl), refl))
+    inr (inr (inl (f.from, f.to, f.epoch, f.number, c.requires.head, c.in-IsKept.ensures.kept refl), refl))
 
 pub returns-in-IsKept-clause-followed : goal.returns-in-IsKept-clause-followed
 returns-in-IsKept-clause-followed c = λ expects.
