@@ -1,0 +1,4 @@
+pub mod Loops
+pub mod Fields
+pub mod Faults
+pub mod Differ

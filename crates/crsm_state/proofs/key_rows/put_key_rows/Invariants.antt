@@ -1,0 +1,7 @@
+use Rattle.std.proofs.Common.{◌≡◌, ◌++◌, take}
+use Rattle.std.specs.List.{flat_map}
+use Rattle.crsm_state.specs.Rows.{key_row_bytes}
+use Rattle.crsm_state.proofs.key_rows.put_key_rows.Given as goal
+
+abbrev pub invariant-loop-row : goal.invariant-loop-row
+invariant-loop-row l = l.out ≡ l.initial.out ++ flat_map key_row_bytes (take l.row-index l.items)
